@@ -9,6 +9,11 @@ use Rattle.tcl_language.specs.Words.{is_level}
 use Rattle.tcl_run.specs.Ends.{IsFailure, itself}
 use Rattle.tcl_text.specs.declared.integer.Integers.{Integers}
 use Rattle.tcl_tree.specs.Own.{Own}
+use Rattle.tcl_frames.specs.Chain.{Chain}
+use Rattle.tcl_language.specs.Control.{chain_or}
+use Rattle.tcl_variables.specs.Faults.{Refuses}
+use Rattle.tcl_variables.specs.declared.fault.FrameError.TheVariants.{Fault}
+use Rattle.tcl_variables.specs.declared.fault.FrameFault.{FrameFault}
 use Rattle.tcl_calls.specs.Levels.{level_at_node, levelled, script_level, with_script}
 
 -- ## The words of an `uplevel`
@@ -42,3 +47,8 @@ pub without_level : (style : Integers) (n : Node Own) (args : List Text) (word :
 without_level style n [] word h e l = absurd (omega arith)
 without_level style n (x ∷ []) word h e l = refl
 without_level style n (x ∷ y ∷ xs) word h e l = ap (levelled style n x (y ∷ xs)) (ap is_level (sym e) ∙ l)
+
+-- where frames can't be set aside they stay
+pub refused_chain : (f : FrameFault) (chain : Chain) (r : Result Chain FrameFault) → Refuses (Fault f) r → chain ≡ chain_or chain r
+refused_chain f chain (Ok other) e = elim e [ ]
+refused_chain f chain (Err g) e = refl

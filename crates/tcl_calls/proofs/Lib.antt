@@ -4,6 +4,7 @@ mod Choosing
 mod Closing
 mod Gathering
 mod Crossing
+mod Telling
 mod Hosted
 mod Handling
 mod Keeping

@@ -2,12 +2,12 @@
 use Rattle.std.proofs.Common.{◌≡◌, ℕ, ◌+◌, ◌-◌, ◌≤◌, Bool, true, false, refl, ap, arith}
 use Rattle.std.specs.Prelude.{nat_lt}
 use Rattle.std.proofs.lemmas.Bool.Decides.{nat_tests}
-use Rattle.tcl_core.specs.Endings.{Meter}
+use Rattle.tcl_core.specs.Endings.{Kind}
 use Rattle.tcl_core.specs.Endings.Reply.{Stop}
 use Rattle.tcl_core.specs.Runs.{lessened}
 
 -- The call went up and then down by a way whose first names it has in common with the caller's own last names: the interpreter that is full stands above both.
-pub told_above : (levels up down common given : ℕ) (m : Meter) → common ≤ down → common ≤ up → down - common ≤ levels → given ≡ (levels - (down - common)) + (up - common) →
+pub told_above : (levels up down common given : ℕ) (m : Kind) → common ≤ down → common ≤ up → down - common ≤ levels → given ≡ (levels - (down - common)) + (up - common) →
     Stop given m ≡ lessened (nat_lt (levels + common) down) (levels + up - down) m
 told_above levels up down common given m h k l e = by (nat_lt (levels + common) down) refl
   where

@@ -1,20 +1,25 @@
 //! Calls that cross to another interpreter: their words, and how their ends are told to the caller.
-ghost use Rattle.std.specs.Prelude.{◌≡◌, ◌≤◌, Some, Err, IfOk, IfSome, IfNone};
+ghost use Rattle.std.specs.Prelude.{◌≡◌, ℕ, ◌≤◌, Some, None, IfOk, IfSome, IfNone};
+ghost use Rattle.std.specs.Prelude.{MatchOption};
+ghost use Rattle.tcl_core.specs.Endings.{Reply};
 ghost use Rattle.tcl_core.specs.Endings.Reply.{Completed};
 ghost use Rattle.tcl_core.specs.Paths.{Path, rise_to};
-ghost use Rattle.tcl_core.specs.Runs.{carried};
+ghost use Rattle.tcl_core.specs.Runs as core;
+ghost use Rattle.tcl_core.specs.Runs.{carried, carried_by, gone};
 ghost use Rattle.tcl_flow.specs.Stopping.{reply_of};
 ghost use Rattle.tcl_language.specs.Faults as faults;
 ghost use Rattle.tcl_language.specs.Table.{some_words};
-ghost use Rattle.tcl_run.specs.Ends.{IfEnded, Interrupts, failing};
+ghost use Rattle.tcl_run.specs.Ends.{Completes, IfEnded, Interrupts, OnCompletion, failing};
 ghost use Rattle.tcl_run.specs.Runs.{IsLoss};
-ghost use Rattle.tcl_tree.specs.TreeOf.{tree_of, Names};
-ghost use Rattle.tcl_run.specs.declared.interruption.Interruption.TheVariants.{Stopped};
-ghost use Rattle.tcl_calls.specs.Carrying.{ComesBack, IsNoStop, Settles};
+ghost use Rattle.tcl_tree.specs.Gone.{Holds};
+ghost use Rattle.tcl_tree.specs.TreeOf.{tree_of};
+ghost use Rattle.tcl_flow.specs.declared.stop.StopKind.TheVariants.{Gone};
+ghost use Rattle.tcl_run.specs.declared.interruption.Interruption.TheVariants.{Memory, Stopped};
+ghost use Rattle.tcl_calls.specs.Carrying.{ComesBack, EndedBy, IsStanding, Settles};
 
 use std::alloc::{AllocError, Global};
 use tcl_flow::completion::settle;
-use tcl_flow::stop::Stop;
+use tcl_flow::stop::{Stop, StopKind};
 use tcl_run::interruption::Interruption;
 use tcl_run::outside::{Happening, Outside};
 use tcl_text::text::Text;
@@ -53,7 +58,7 @@ pub fn settled(alloc: Global, ended: Result<Value, Interruption>) -> Result<Valu
 }
 
 /// Tells the outside that a call came to its end, so many levels up and these names down from the
-/// caller, and gives how the caller is told it.
+/// caller, and gives how the caller is told it: by no completion, where the caller is gone.
 ///
 /// # Errors
 /// Every end but an ordinary one; want of memory.
@@ -68,15 +73,27 @@ pub fn return_to_caller<O: Outside>(
     down: &[Text],
     ended: Result<Value, Interruption>,
 ) -> Result<Value, Interruption>
-    requires { (p : Path) × Names tree.now caller p }
+    requires { (p : Path) × (d : ℕ) × Holds tree.now caller p d }
     ensures comes { IfEnded result
-        (λ r. (p a : Path) → Names tree.now caller p → rise_to (Some up) p ≡ Some a →
-        ComesBack O.goes (tree_of tree.now) outside.old p up a down.now ended r outside.new) }
+        (λ r. (p a : Path) (d : ℕ) → Holds tree.now caller p d → rise_to (Some up) p ≡ Some a →
+        ComesBack O.goes (tree_of tree.now) outside.old p d up a down.now ended r outside.new) }
+    ensures stands { OnCompletion result (IsStanding tree.now caller) }
     ensures lost { IsLoss O.loses outside.old outside.new }
     ensures left { O.entries_left outside.new ≤ O.entries_left outside.old }
 {
-    match stop_of(&ended) {
-        Some(stop) => return_stop_to_caller(tree, alloc, outside, caller, up, down, stop),
+    match told_instead(tree, alloc, caller, up, down, &ended) {
+        Some(instead) => {
+            let told = Err(instead);
+            let happening = Happening::Returned {
+                caller,
+                up,
+                down,
+                ended: &ended,
+                told: &told,
+            };
+            outside.notify(alloc, tree, happening)?;
+            told
+        }
         None => {
             let happening = Happening::Returned {
                 caller,
@@ -91,47 +108,61 @@ pub fn return_to_caller<O: Outside>(
     }
 }
 
-/// The stop that an end is.
-fn stop_of(ended: &Result<Value, Interruption>) -> Option<Stop>
-    ensures some { IfSome result (λ stop. ended.now ≡ Err (Stopped stop)) }
-    ensures none { IfNone result (IsNoStop ended.now) }
+/// What the caller is told of an end in place of it: of a stop how it sees that, and that it is
+/// gone, where it is, of a completion. None where it is told the end as it is.
+fn told_instead(
+    tree: &Tree,
+    alloc: Global,
+    caller: Place,
+    up: usize,
+    down: &[Text],
+    ended: &Result<Value, Interruption>,
+) -> Option<Interruption>
+    requires { (p : Path) × (d : ℕ) × Holds tree.now caller p d }
+    ensures instead { IfSome result
+        (λ told. (s : Reply) × EndedBy ended.now s × Interrupts told (λ r. (p : Path) (d : ℕ) →
+        Holds tree.now caller p d → r ≡ carried (gone d (tree_of tree.now) p) (Some up) p down.now
+        s)) }
+    ensures itself { IfNone result ((p : Path) (d : ℕ) (s : Reply) → Holds tree.now caller p d →
+        EndedBy ended.now s → s ≡ carried (gone d (tree_of tree.now) p) (Some up) p down.now s) }
+    ensures stands { MatchOption result
+        (OnCompletion ended.now (IsStanding tree.now caller))
+        (λ told. Completes told (IsStanding tree.now caller)) }
 {
+    let gone = tree.is_gone(caller);
     match ended {
-        Err(Interruption::Stopped(stop)) => Some(*stop),
+        Err(Interruption::Stopped(stop)) => {
+            Some(unless_gone(gone, stop_for_caller(tree, alloc, caller, up, down, *stop)))
+        }
+        Ok(_) => Some(gone_stop(gone?)),
+        Err(Interruption::Completed(_)) => Some(gone_stop(gone?)),
         _ => None,
     }
 }
 
-/// Tells the outside that a call was ended by a stop, and gives the stop as the caller sees it.
-#[tactic(auto, using(tcl_run::proofs::Losing::losing))]
-fn return_stop_to_caller<O: Outside>(
-    tree: &Tree,
-    alloc: Global,
-    outside: &mut O,
-    caller: Place,
-    up: usize,
-    down: &[Text],
-    stop: Stop,
-) -> Result<Value, Interruption>
-    requires { (p : Path) × Names tree.now caller p }
-    ensures comes { IfEnded result
-        (λ r. (p a : Path) → Names tree.now caller p → rise_to (Some up) p ≡ Some a →
-        ComesBack O.goes (tree_of tree.now) outside.old p up a down.now (Err (Stopped stop)) r
-        outside.new) }
-    ensures lost { IsLoss O.loses outside.old outside.new }
-    ensures left { O.entries_left outside.new ≤ O.entries_left outside.old }
+/// The stop of an evaluation whose interpreter is gone, the highest that is so many levels up.
+fn gone_stop(levels_up: usize) -> Interruption
+    ensures { result ≡ Stopped (record { levels_up = levels_up; kind = Gone }) }
 {
-    let ended = Err(Interruption::Stopped(stop));
-    let told = Err(stop_for_caller(tree, alloc, caller, up, down, stop));
-    let happening = Happening::Returned {
-        caller,
-        up,
-        down,
-        ended: &ended,
-        told: &told,
+    Interruption::Stopped(Stop {
+        levels_up,
+        kind: StopKind::Gone,
+    })
+}
+
+/// What a caller is told of an end, which is no completion where the caller is gone.
+fn unless_gone(gone: Option<usize>, told: Interruption) -> Interruption
+    ensures told { Interrupts told (λ r. Interrupts result (λ e. e ≡ core.ended gone r)) }
+    ensures memory { told ≡ Memory → result ≡ Memory }
+    ensures stands { Completes result (gone ≡ None) }
+{
+    let Some(levels_up) = gone else {
+        return told;
     };
-    outside.notify(alloc, tree, happening)?;
-    told
+    match told {
+        Interruption::Completed(_) => gone_stop(levels_up),
+        other => other,
+    }
 }
 
 /// A stop as the caller sees it: where it doesn't stand below the interpreter that is full, an
@@ -145,9 +176,9 @@ fn stop_for_caller(
     down: &[Text],
     stop: Stop,
 ) -> Interruption
-    requires { (p : Path) × Names tree.now place p }
-    ensures { Interrupts result (λ e. (p : Path) → Names tree.now place p →
-        e ≡ carried (Some up) p down.now (reply_of stop)) }
+    requires { (p : Path) × (d : ℕ) × Holds tree.now place p d }
+    ensures { Interrupts result (λ e. (p : Path) (d : ℕ) → Holds tree.now place p d →
+        e ≡ carried_by (reply_of stop) (Some up) p down.now) }
 {
     let Ok(names) = tree.last_names(alloc, place, up) else {
         return Interruption::Memory;

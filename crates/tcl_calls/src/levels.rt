@@ -1,14 +1,16 @@
 //! The levels at which commands evaluate scripts.
-ghost use Rattle.std.specs.Prelude.{◌≡◌, IfErr, MatchResult, Ok, OnOk, Some};
+ghost use Rattle.std.specs.Prelude.{◌≡◌, ℕ, IfErr, MatchResult, Ok, OnOk, Some, nat_lt};
 ghost use Rattle.tcl_core.specs.Paths.{Path};
 ghost use Rattle.tcl_core.specs.Trees as core;
-ghost use Rattle.tcl_core.specs.Trees.{effect};
+ghost use Rattle.tcl_core.specs.Programs.{brought_back};
+ghost use Rattle.tcl_core.specs.Trees.{depth_of, effect};
 ghost use Rattle.tcl_core.specs.Trees.What.{Changed};
 ghost use Rattle.tcl_language.specs.Control.{at_level, level_over};
 ghost use Rattle.tcl_language.specs.Words.{are_digits, is_level, some_digits};
 ghost use Rattle.tcl_run.specs.Ends.{Gave, Interrupts, IsFailure, itself};
 ghost use Rattle.tcl_run.specs.Runs.{IsLevel};
 ghost use Rattle.tcl_run.specs.declared.interruption.Interruption.TheVariants.{Memory};
+ghost use Rattle.tcl_tree.specs.Gone.{Holds};
 ghost use Rattle.tcl_tree.specs.Own.{Own};
 ghost use Rattle.tcl_tree.specs.TreeOf.{tree_of, marks_of, Names};
 ghost use Rattle.tcl_calls.specs.Levels.{level_at_node, script_level};
@@ -136,15 +138,18 @@ pub fn set_aside(
     }
 }
 
-/// Brings the frames back that were set aside last.
+/// Brings the frames back that were set aside last, where the interpreter isn't gone.
 #[inline(never)]
 pub fn bring_back(tree: &mut Tree, place: Place)
-    requires { (p : Path) × Names tree.old place p }
-    ensures back { (p : Path) (n : core.Node Own) → Names tree.old place p →
-        tree_of tree.old p ≡ Some n → tree_of tree.new
-        ≡ effect p (Changed (level_over n.own)) (tree_of tree.old) }
+    requires { (p : Path) × (d : ℕ) × Holds tree.old place p d }
+    ensures back { (p : Path) (d : ℕ) → Holds tree.old place p d → tree_of tree.new
+        ≡ effect p (brought_back (nat_lt (depth_of (tree_of tree.old p)) d) level_over
+        (tree_of tree.old p)) (tree_of tree.old) }
     ensures level { IsLevel tree.old tree.new }
 {
+    if let Some(_) = tree.is_gone(place) {
+        return;
+    }
     match tree.frames_of(place) {
         Some(frames) => frames.bring_back(),
         None => unreachable!(),

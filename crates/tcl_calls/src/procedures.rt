@@ -1,11 +1,12 @@
 //! Calls of procedures.
 ghost use Rattle.std.specs.Prelude.{◌≡◌, ◌++◌, ◌∷◌, [], true, false, IfOk, IfErr, OnOk, Some, None};
-ghost use Rattle.std.specs.Prelude.{option_map};
+ghost use Rattle.std.specs.Prelude.{ℕ, nat_lt, option_map};
 ghost use Rattle.std.specs.String.{string_bytes};
 ghost use Rattle.tcl_core.specs.Endings.Reply.{Completed};
 ghost use Rattle.tcl_core.specs.Paths.{Path};
 ghost use Rattle.tcl_core.specs.Trees as core;
-ghost use Rattle.tcl_core.specs.Trees.{effect};
+ghost use Rattle.tcl_core.specs.Programs.{brought_back};
+ghost use Rattle.tcl_core.specs.Trees.{depth_of, effect};
 ghost use Rattle.tcl_core.specs.Trees.What.{Changed};
 ghost use Rattle.tcl_language.specs.Control.{last_bound, bindings, bound, in_frame, out_of_frame};
 ghost use Rattle.tcl_language.specs.Control.{fit_all, parameter_form, last_form, parameters_form};
@@ -14,6 +15,7 @@ ghost use Rattle.tcl_language.specs.Instructions.{too_long as too_long_error, fi
 ghost use Rattle.tcl_language.specs.Faults as faults;
 ghost use Rattle.tcl_run.specs.Ends.{Interrupts, failing};
 ghost use Rattle.tcl_run.specs.Runs.{IsLevel};
+ghost use Rattle.tcl_tree.specs.Gone.{Holds};
 ghost use Rattle.tcl_tree.specs.Own.{Own};
 ghost use Rattle.tcl_tree.specs.TreeOf.{tree_of, Names};
 ghost use Rattle.tcl_run.specs.declared.interruption.Interruption.TheVariants.{Memory};
@@ -80,15 +82,18 @@ pub fn enter_frame(
     bind_all(frames, alloc, bindings)
 }
 
-/// Takes the frame on top off.
+/// Takes the frame on top off, where the interpreter isn't gone.
 #[inline(never)]
 pub fn leave_frame(tree: &mut Tree, place: Place)
-    requires { (p : Path) × Names tree.old place p }
-    ensures left { (p : Path) (n : core.Node Own) → Names tree.old place p →
-        tree_of tree.old p ≡ Some n → tree_of tree.new
-        ≡ effect p (Changed (out_of_frame n.own)) (tree_of tree.old) }
+    requires { (p : Path) × (d : ℕ) × Holds tree.old place p d }
+    ensures left { (p : Path) (d : ℕ) → Holds tree.old place p d → tree_of tree.new
+        ≡ effect p (brought_back (nat_lt (depth_of (tree_of tree.old p)) d) out_of_frame
+        (tree_of tree.old p)) (tree_of tree.old) }
     ensures level { IsLevel tree.old tree.new }
 {
+    if let Some(_) = tree.is_gone(place) {
+        return;
+    }
     match tree.frames_of(place) {
         Some(frames) => frames.pop(),
         None => unreachable!(),

@@ -55,7 +55,7 @@ pub held_of : (t u : Table) (place : TablePlace) (chain next : Chain) → (p : P
 held_of t u place chain next at left lent =
     let n = stands (tree_of t at.0) (tree_there t at.0 _ at.1) in
     let here = left at.0 at.1 in
-    record { level = changed_level t u at.0 (with_chain n.0.own next) here.marks here.keys (here.tree n.0 n.1); lent = lent; left = left }
+    record { level = changed_level t u at.0 (with_chain n.0.own next) here.marks here.keys here.held (here.tree n.0 n.1); lent = lent; left = left }
 
 -- a chain that was left as it was
 pub kept : (t u : Table) (place : TablePlace) (chain next : Chain) (p : Path) (n : Node Own) → Held t u place chain next → next ≡ chain → Names t place p → tree_of t p ≡ Some n → tree_of u ≡ tree_of t

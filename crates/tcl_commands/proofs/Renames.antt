@@ -21,6 +21,7 @@ use Rattle.tcl_tree.specs.Changes as changes
 use Rattle.tcl_tree.specs.Naming as tree
 use Rattle.tcl_tree.specs.Naming.{Becomes, RefusesNaming}
 use Rattle.tcl_tree.specs.Own.{Own, command_in}
+use Rattle.tcl_tree.specs.Gone.{held_of}
 use Rattle.tcl_tree.specs.TreeOf.{tree_of, key_of, marks_of, Names}
 use Rattle.tcl_interpreter.specs.declared.command.Command.{Command}
 use Rattle.tcl_interpreter.specs.declared.command.Command.TheVariants as command
@@ -126,11 +127,11 @@ module _ (t u : Table) (place : TablePlace) (f : Own → language.Named) where
       (does_change (tree_of t) (tree_of u) (tree_of u) p (Completed (ok [])) n.0 b.0 done_so n.1 b.2 (refl, refl))))
 
   pub renaming_level : (g : Own → tree.Named) → (p : Path) × Names t place p → ((p : Path) → Names t place p → Becomes (tree_of t) (tree_of u) p g) →
-      ((q : Path) → key_of u q ≡ key_of t q) → marks_of u ≡ marks_of t → IsLevel t u
-  renaming_level g at becomes keys marks =
+      ((q : Path) → key_of u q ≡ key_of t q) → ((k : ℕ) → held_of u k ≡ held_of t k) → marks_of u ≡ marks_of t → IsLevel t u
+  renaming_level g at becomes keys held marks =
       let n = stands (tree_of t at.0) (tree_there t at.0 _ at.1) in
       let b = becomes at.0 at.1 n.0 n.1 in
-      changed_level t u at.0 b.0 marks keys b.2
+      changed_level t u at.0 b.0 marks keys held b.2
 
   -- it is refused, whatever the table says
   pub renaming_fails : (i : Interruption) → tree_of u ≡ tree_of t →

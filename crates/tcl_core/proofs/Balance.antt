@@ -5,13 +5,13 @@ use Rattle.tcl_core.specs.Endings.{Reply}
 use Rattle.tcl_core.specs.Endings.Reply.{Exit}
 use Rattle.tcl_core.specs.Entries.{Entry, Answer}
 use Rattle.tcl_core.specs.Entries.Answer.{Replied}
-use Rattle.tcl_core.specs.Trees.{What, Event, Move, seen_what}
-use Rattle.tcl_core.specs.Trees.What.{Made, Dropped, Out, In, Done, Back}
+use Rattle.tcl_core.specs.Trees.{What, Event, Move, seen_what, Node}
+use Rattle.tcl_core.specs.Trees.What.{Made, Dropped, Out, In, Done, Back, Unfound}
 use Rattle.tcl_core.specs.Trees.Move.{Born, Fall, Enter, Come}
 use Rattle.tcl_core.specs.Programs.{Deed, spot, Act, Wrap, Wait, Prog, Table, decide, opens, closes}
 use Rattle.tcl_core.specs.Runs.{World, Step, Ending, Halts, Exits, Exiting, ends_call, height_of}
 use Rattle.tcl_core.specs.Rules.{Derives}
-use Rattle.tcl_core.specs.Rules.Derives.{completed, exited, acted, refused, unheard, went, passed, halted, wrapped, wrapped_passed, wrapped_halted, too_deep, shut, unheard_inside, called, called_passed, called_halted, unreached, called_out, unanswered, unfit, answered, heard, answered_passed, entered, entered_halted, entered_exiting, born, fallen}
+use Rattle.tcl_core.specs.Rules.Derives.{completed, exited, acted, refused, unheard, went, passed, halted, wrapped, wrapped_passed, wrapped_halted, too_deep, shut, unheard_inside, called, called_passed, called_halted, unreached, called_out, unanswered, unfit, answered, heard, missed, answered_passed, entered, entered_halted, entered_exiting, born, fallen, unfound}
 use Rattle.tcl_core.specs.Views.{view, kept, from_above}
 use Rattle.tcl_core.proofs.PathLaws.{seen_rise, strip_own, strip-sound}
 use Rattle.tcl_core.proofs.MoreMoves.{none_not}
@@ -158,8 +158,8 @@ module _ {O I : Type 0} (top : Place) (prog : Table O I) where
   begins : (w : World O) (p : Place) (b : Wrap O) (x : Deed O) (u v : World O) (e : Ending) → opens b w.tree p w.grants ≡ Some x → Step w (spot p x.0) x.1 u → Owes top u v e → Owes top w v e
   begins w p b x u v e g s a = plain_owes top w (spot p x.0) x.1 u v e (opens_plain b w.tree p w.grants x g) s a
 
-  ends : (w : World O) (p : Place) (b : Wrap O) (u v : World O) (e : Ending) → Step w p (closes b (w.tree p)) u → Owes top u v e → Owes top w v e
-  ends w p b u v e s a = plain_owes top w p (closes b (w.tree p)) u v e (closes_plain b (w.tree p)) s a
+  ends : (n : Option (Node O)) (w : World O) (p : Place) (b : Wrap O) (u v : World O) (e : Ending) → Step w p (closes b n (w.tree p)) u → Owes top u v e → Owes top w v e
+  ends n w p b u v e s a = plain_owes top w p (closes b n (w.tree p)) u v e (closes_plain b n (w.tree p)) s a
 
   pub owes : {w : World O} {p : Place} {x : Prog O I} {v : World O} {e : Ending} → Derives prog w p x v e → Owes top w v e
   owes (completed w p c) = at_once top w _
@@ -170,8 +170,8 @@ module _ {O I : Type 0} (top : Place) (prog : Table O I) where
   owes (went w p i k u c v e a b) = then_owes top w u v _ e (owes a) (owes b)
   owes (passed w p i k u r q a) = owes a
   owes (halted w p i k u a) = owes a
-  owes (wrapped w p b i k x inner left closed v c e g on s a t d) = begins w p b x inner v e g s (then_owes top inner left v _ e (owes a) (ends left p b closed v e t (owes d)))
-  owes (wrapped_passed w p b i k x inner left closed r q g on s a t) = begins w p b x inner closed _ g s (then_owes top inner left closed r _ (owes a) (ends left p b closed closed _ t (at_once top closed _)))
+  owes (wrapped w p b i k x inner left closed v c e g on s a t d) = begins w p b x inner v e g s (then_owes top inner left v _ e (owes a) (ends (inner.tree p) left p b closed v e t (owes d)))
+  owes (wrapped_passed w p b i k x inner left closed r q g on s a t) = begins w p b x inner closed _ g s (then_owes top inner left closed r _ (owes a) (ends (inner.tree p) left p b closed closed _ t (at_once top closed _)))
   owes (wrapped_halted w p b i k x inner left g on s a) = begins w p b x inner left None g s (owes a)
   owes (too_deep w p b i k x u v e g deep s a) = begins w p b x u v e g s (owes a)
   owes (shut w p b i k x r u g off s) = begins w p b x u u _ g s (at_once top u _)
@@ -187,12 +187,14 @@ module _ {O I : Type 0} (top : Place) (prog : Table O I) where
   owes (unfit w p s k m ms f g h t) = at_once top w None
   owes (answered w p s k c u v e f g t a) = answer_owes top w p (height_of s) _ u v e t (owes a)
   owes (heard w p s k y u v e f g t a) = answer_owes top w p (height_of s) _ u v e t (owes a)
+  owes (missed w p s k u v e f g t a) = answer_owes top w p (height_of s) _ u v e t (owes a)
   owes (answered_passed w p s k r u q f g t) = answer_owes top w p (height_of s) _ u u _ t (at_once top u _)
-  owes (entered w p s k t i inner left told v r e f s1 a s2 n b) = then_owes top w told v r e (visit_owes top w inner left told None t i r s1 (owes a) s2) (owes b)
-  owes (entered_halted w p s k t i inner left f s1 a) = halted_owes top w inner left None t i s1 (owes a)
-  owes (entered_exiting w p s k t i inner left told v n e f s1 a s2 b) = then_owes top w told v (Exit n) e (visit_owes top w inner left told None t i (Exit n) s1 (owes a) s2) (exits_owe top told p s n told.moves v e b)
+  owes (entered w p s k t i inner left told v r e f here s1 a s2 n b) = then_owes top w told v r e (visit_owes top w inner left told None t i r s1 (owes a) s2) (owes b)
+  owes (entered_halted w p s k t i inner left f here s1 a) = halted_owes top w inner left None t i s1 (owes a)
+  owes (entered_exiting w p s k t i inner left told v n e f here s1 a s2 b) = then_owes top w told v (Exit n) e (visit_owes top w inner left told None t i (Exit n) s1 (owes a) s2) (exits_owe top told p s n told.moves v e b)
   owes (born w p s k o b u v e f t a) = plain_owes top w [] (Made o b) u v e tt t (owes a)
   owes (fallen w p s k u v e f t a) = plain_owes top w [] Dropped u v e tt t (owes a)
+  owes (unfound w p s k t i u v e f here b a) = step_owes top w [] (Unfound t i (prog.lost t)) u v e b (λ n. refl) (λ n. refl) (owes a)
 
 -- in a subtree they are seen as they are
 module _ {O : Type 0} where

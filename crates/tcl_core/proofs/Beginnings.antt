@@ -5,7 +5,7 @@ use Rattle.tcl_core.specs.Endings.{Reply, Cause}
 use Rattle.tcl_core.specs.Endings.Reply.{Completed, Stop, Exit, Cut}
 use Rattle.tcl_core.specs.Endings.Cause.{Over}
 use Rattle.tcl_core.specs.Entries.{Entry, Answer}
-use Rattle.tcl_core.specs.Entries.Answer.{Replied, Heard}
+use Rattle.tcl_core.specs.Entries.Answer.{Replied, Heard, Nobody}
 use Rattle.tcl_core.specs.Trees.{What, Event, Move, at, at_top, asked, where_none}
 use Rattle.tcl_core.specs.Trees.Grants.{Budget}
 use Rattle.tcl_core.specs.Trees.What.{Made, Dropped, Out, In, Done, Back}
@@ -135,6 +135,10 @@ module _ {O : Type 0} where
       hears None y ms g = g
       hears (Some z) y ms g = g
 
+      misses : (o : Option Place) (ms : List (Move O)) → NoEnds ms → NoEnds (where_none o (Come Nobody) ms)
+      misses None ms g = g
+      misses (Some z) ms g = g
+
       cuts : (o : Option Place) (c : Cause) (ms : List (Move O)) → (o ≡ None → Prim.⊥) → NoEnds ms → NoEnds (where_none o (Come (Replied (Cut c))) ms)
       cuts None c ms f g = f refl
       cuts (Some z) c ms f g = g
@@ -146,6 +150,7 @@ module _ {O : Type 0} where
       step : (p : Place) (x : What O) → Unended p x → (ms : List (Move O)) → NoEnds ms → NoEnds (asked p x ms)
       step p (In h i) f ms g = enters (rise_to h p) p i ms g
       step p (Back h (Heard y)) f ms g = hears (rise_to h p) y ms g
+      step p (Back h Nobody) f ms g = misses (rise_to h p) ms g
       step p (Back h (Replied (Completed c))) f ms g = comes (rise_to h p) (Completed c) ms g g
       step p (Back h (Replied (Stop n m))) f ms g = comes (rise_to h p) (Stop n m) ms g g
       step p (Back h (Replied (Exit n))) f ms g = comes (rise_to h p) (Exit n) ms g g

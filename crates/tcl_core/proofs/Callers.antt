@@ -1,11 +1,12 @@
 -- Programs that call, and wait for nothing.
+use Rattle.tcl_core.specs.Endings.{Completion}
+use Rattle.tcl_core.specs.Entries.Said.{Finished, Told, Missed}
 use Rattle.std.proofs.Common.{◌≡◌, Option, Some, None, refl}
-use Rattle.tcl_core.specs.Entries.{Entry}
+use Rattle.tcl_core.specs.Entries.{Entry, Said}
 use Rattle.tcl_core.specs.Trees.{Node}
-use Rattle.tcl_core.specs.Programs.{Calls_only, Prog, Table}
+use Rattle.tcl_core.specs.Programs.{Calls_only, Prog, Table, or_lost}
 pub use Rattle.tcl_core.specs.Execution.{Fits, waits_for}
 use Rattle.tcl_core.specs.Programs.Prog.{done, exit, act, go, inside, call, wait}
-use Rattle.tcl_core.specs.Runs.{entering}
 
 module _ {O I : Type 0} where
   -- what calls waits for nothing
@@ -28,7 +29,8 @@ module _ {O I : Type 0} where
   fit (call h down i lost k) f = f
   fit (wait s k) f = absurd f
 
-  -- what an entry does calls
-  pub entering_calls : (prog : Table O I) (n : Option (Node O)) (i : Entry) → Calls_only (entering prog n i)
-  entering_calls prog None i = tt
-  entering_calls prog (Some n) i = prog.entries_call i
+  -- what goes on after a call that left the tree goes on as after any call
+  pub or_lost_all : (P : Prog O I → Type 0) (lost : Completion) (k : Said → Prog O I) → ((s : Said) → P (k s)) → (s : Said) → P (or_lost lost k s)
+  or_lost_all P lost k f (Finished c) = f (Finished c)
+  or_lost_all P lost k f (Told a) = f (Told a)
+  or_lost_all P lost k f Missed = f (Finished lost)

@@ -6,7 +6,7 @@ use Rattle.tcl_core.specs.Paths.{Place, strip}
 use Rattle.tcl_core.specs.Paths.{rise_to}
 use Rattle.tcl_core.specs.Trees.Grants.{Listed, Budget}
 use Rattle.tcl_core.specs.Trees.{asked, Grants, granted, denied, Tree, What, Event, Node, paid, at_end, where_some, effect, with_own, with_limit, with_depth_limit, counted, deeper, shallower, fresh, seen_what}
-use Rattle.tcl_core.specs.Trees.What.{Seen, Changed, Charged, Refused, Nested, Unnested, Limited, DepthLimited, Made, Dropped, Out, In, Done, Back}
+use Rattle.tcl_core.specs.Trees.What.{Seen, Changed, Charged, Refused, Nested, Unnested, Limited, DepthLimited, Made, Dropped, Out, In, Done, Back, Unfound}
 use Rattle.tcl_core.specs.Programs.{Prog, Table, blocked, full_at, nearer, is_spent, limit_or}
 use Rattle.tcl_core.specs.Runs.{World, Ending, Runs}
 use Rattle.tcl_core.specs.Views.{IsDue, from_above, steps_of, kept, view}
@@ -17,7 +17,7 @@ use Rattle.tcl_core.proofs.Keeping.{runs_keep, KeepsSteps}
 
 module _ {O : Type 0} where
   -- the steps that x at p costs c
-  taken : Option Place → What O → ℕ → ℕ
+  abbrev pub taken : Option Place → What O → ℕ → ℕ
   taken None x k = k
   taken (Some q) x k = paid x k
 
@@ -47,7 +47,7 @@ module _ {O : Type 0} where
   limit_after x s m = m
 
   -- c after x at p: the count, and the limit
-  abbrev Meters : Place → Place → What O → Tree O → Node O → Type 0
+  abbrev pub Meters : Place → Place → What O → Tree O → Node O → Type 0
   Meters c p x T n = (m : Node O) × (effect p x T c ≡ Some m) × ((k : ℕ) → m.count + k ≡ n.count + taken (strip c p) x k) × (m.limit ≡ limit_after x (strip p c) n.limit)
 
   -- what costs nothing, and sets no limit
@@ -74,7 +74,7 @@ module _ {O : Type 0} where
   taken_free None x k f = refl
   taken_free (Some q) x k f = f k
 
-  meters : (c p : Place) (x : What O) (T : Tree O) (n : Node O) → Stands c p x → T c ≡ Some n → Meters c p x T n
+  pub meters : (c p : Place) (x : What O) (T : Tree O) (n : Node O) → Stands c p x → T c ≡ Some n → Meters c p x T n
   meters c p (Changed o) T n s e = free c p (Changed o) T n (λ k. refl) refl (at_end_meters (with_own o) (λ n. (record n { own = o }, refl, refl, refl)) (strip p c) (T c) n e)
   meters c p Charged T n s e = charged_at (strip c p) (T c) n e
   meters c p Nested T n s e = free c p Nested T n (λ k. refl) refl (where_meters deeper (λ n. (record n { depth = suc n.depth }, refl, refl, refl)) (strip c p) (T c) n e)
@@ -90,6 +90,7 @@ module _ {O : Type 0} where
   meters c p (Out h d i) T n s e = free c p (Out h d i) T n (λ k. refl) refl (n, e, refl, refl)
   meters c p (Back h r) T n s e = free c p (Back h r) T n (λ k. refl) refl (n, e, refl, refl)
   meters c p (In h r) T n s e = free c p (In h r) T n (λ k. refl) refl (n, e, refl, refl)
+  meters c p (Unfound t i y) T n s e = free c p (Unfound t i y) T n (λ k. refl) refl (n, e, refl, refl)
   meters c p (Done h r) T n s e = free c p (Done h r) T n (λ k. refl) refl (n, e, refl, refl)
 
   steps_above : (b : Option Place) (x : What O) (τ : List (Event O)) → steps_of (from_above b x τ) ≡ steps_of τ

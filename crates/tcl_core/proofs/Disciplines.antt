@@ -1,5 +1,6 @@
 -- What a discipline forbids does not happen.
-use Rattle.std.proofs.Common.{sym, ◌≡◌, inl, inr, ℕ, zero, suc, ℤ, Bool, true, false, List, [], ◌∷◌, ◌++◌, Option, Some, None, refl, ◌∙◌, ap, subst}
+use Rattle.tcl_core.proofs.Callers.{or_lost_all}
+use Rattle.std.proofs.Common.{sym, ◌≡◌, inl, inr, ℕ, zero, suc, ℤ, Bool, true, false, List, [], ◌∷◌, ◌++◌, Option, Some, None, refl, ◌∙◌, ap, subst, nat_lt}
 use Rattle.tcl_core.specs.Paths.{Path, Place, Height, strip, rise_to}
 use Rattle.tcl_core.specs.Endings.{Meter}
 use Rattle.tcl_core.specs.Endings.Meter.{Count, Depth}
@@ -7,19 +8,19 @@ use Rattle.tcl_core.specs.Endings.Reply.{Exit, Cut}
 use Rattle.tcl_core.specs.Endings.Cause.{Above, Over}
 use Rattle.tcl_core.specs.Entries.{Entry, Said}
 use Rattle.tcl_core.specs.Entries.Answer.{Replied}
-use Rattle.tcl_core.specs.Trees.{Grants, Tree, Node, What, Move, at, at_end, where_some, on_some, effect, with_own, with_limit, with_depth_limit, counted, deeper, shallower, fresh, asked, where_none, at_top}
+use Rattle.tcl_core.specs.Trees.{Grants, Tree, Node, What, Move, at, at_end, where_some, on_some, effect, with_own, with_limit, with_depth_limit, counted, deeper, shallower, fresh, asked, where_none, at_top, depth_of}
 use Rattle.tcl_core.specs.Trees.Grant.{Allow, Deny}
 use Rattle.tcl_core.specs.Trees.Grants.{Listed, Budget}
-use Rattle.tcl_core.specs.Trees.What.{Seen, Changed, Charged, Refused, Nested, Unnested, Limited, DepthLimited, Made, Dropped, Out, In, Back}
+use Rattle.tcl_core.specs.Trees.What.{Seen, Changed, Charged, Refused, Nested, Unnested, Limited, DepthLimited, Made, Dropped, Out, In, Back, Unfound}
 use Rattle.tcl_core.specs.Trees.Move.{Born, Fall, Enter, Come}
-use Rattle.tcl_core.specs.Programs.{Deed, spot, Act, Wrap, Wait, Prog, Table, decide, opens, closes, changing, making, dropping, dropping_at, either, metered, by_limit, blocked, is_spent, is_deep}
+use Rattle.tcl_core.specs.Programs.{Deed, spot, Act, Wrap, Wait, Prog, Table, decide, opens, closes, changing, making, dropping, either, metered, by_limit, blocked, is_spent, is_deep, brought_back}
 use Rattle.tcl_core.specs.Programs.Next.{On, Off}
 use Rattle.tcl_core.specs.Programs.Act.{Look, Change, Charge, Limit, LimitDepth, Make, Drop}
 use Rattle.tcl_core.specs.Programs.Wrap.{Deeper, Framed}
 use Rattle.tcl_core.specs.Programs.Prog.{done, exit, act, go, inside, call, wait}
-use Rattle.tcl_core.specs.Runs.{World, Step, Ending, Exits, entering, height_of}
+use Rattle.tcl_core.specs.Runs.{World, Step, Ending, Exits, height_of}
 use Rattle.tcl_core.specs.Rules.{Derives}
-use Rattle.tcl_core.specs.Rules.Derives.{completed, exited, acted, refused, unheard, went, passed, halted, wrapped, wrapped_passed, wrapped_halted, too_deep, shut, unheard_inside, called, called_passed, called_halted, unreached, called_out, unanswered, unfit, answered, heard, answered_passed, entered, entered_halted, entered_exiting, born, fallen}
+use Rattle.tcl_core.specs.Rules.Derives.{completed, exited, acted, refused, unheard, went, passed, halted, wrapped, wrapped_passed, wrapped_halted, too_deep, shut, unheard_inside, called, called_passed, called_halted, unreached, called_out, unanswered, unfit, answered, heard, missed, answered_passed, entered, entered_halted, entered_exiting, born, fallen, unfound}
 use Rattle.tcl_core.specs.Views.{view, inside_of}
 use Rattle.tcl_core.specs.Lives.{idle, never}
 use Rattle.tcl_core.specs.Tables.{Discipline, IsGoodNode, IsGood, Modest_act, Modest_wrap, Modest_call, Modest, Keeps_to, Tame_move, AreTame, Limitable, Allowed, AreAllowed}
@@ -71,6 +72,7 @@ module _ {O I : Type 0} (R : Discipline O I) where
   tame_left p (Back h y) ms a = tame_where (rise_to h p) (Come y) ms a
   tame_left p (Made o s) ms a = tame_top p (Born o s) ms a
   tame_left p Dropped ms a = tame_top p Fall ms a
+  tame_left p (Unfound t i y) ms a = a.1
   tame_left p _ ms a = a
 
   -- what is kept of the world
@@ -108,11 +110,7 @@ module _ {O I : Type 0} (R : Discipline O I) where
 
   dropping_allowed : (p : Place) (name : List ℕ) (n : Option (Node O)) → Allowed R (spot p (dropping name n).0) (dropping name n).1
   dropping_allowed p name None = tt
-  dropping_allowed p name (Some n) = by n.depth
-    where
-      by : (d : ℕ) → Allowed R (spot p (dropping_at {O = O} name d).0) (dropping_at {O = O} name d).1
-      by zero = tt
-      by (suc d) = tt
+  dropping_allowed p name (Some n) = tt
 
   -- where limits may be set, if they may be by what goes on
   abbrev Licence : Bool → Place → Type 0
@@ -131,10 +129,14 @@ module _ {O I : Type 0} (R : Discipline O I) where
   opens_allowed Deeper T p gs x f e = metered_allowed p Depth Nested (blocked is_deep T p) gs x tt e
   opens_allowed (Framed o back) T p gs x f e = deed_of p (changing o (T p)) x (changing_allowed p o (T p) f.0) e
 
-  closes_allowed : (p : Place) (b : Wrap O) (n : Option (Node O)) → Modest_wrap R b → IsGoodNode R n → Allowed R p (closes b n)
-  closes_allowed p Deeper n f g = tt
-  closes_allowed p (Framed o back) None f g = tt
-  closes_allowed p (Framed o back) (Some n) f g = f.1 n.own g.1
+  closes_allowed : (p : Place) (b : Wrap O) (m n : Option (Node O)) → Modest_wrap R b → IsGoodNode R n → Allowed R p (closes b m n)
+  closes_allowed p Deeper m n f g = tt
+  closes_allowed p (Framed o back) m n f g = by (nat_lt (depth_of n) (depth_of m)) n g
+    where
+      by : (t : Bool) (n : Option (Node O)) → IsGoodNode R n → Allowed R p (brought_back t back n)
+      by t None g = tt
+      by true (Some n) g = tt
+      by false (Some n) g = f.1 n.own g.1
 
   out_allowed : (p : Place) (h : Height) (down : Path) (i : Entry) → Modest_call R h i → Allowed R p (Out h down i)
   out_allowed p None down i f = f
@@ -171,18 +173,10 @@ module _ {O I : Type 0} (R : Discipline O I) where
   below w p g = λ q. g.0 (p ++ q)
 
   module _ (prog : Table O I) (all : Keeps_to R prog) where
-    fit_entry : (n : Option (Node O)) (i : Entry) → R.tame i ≡ true → Modest R R.may_limit (entering prog n i)
-    fit_entry None i f = tt
-    fit_entry (Some n) i f = all.entries i f
-
-    fit_limit : (n : Option (Node O)) (i : Entry) → R.limits i ≡ true → Modest R true (entering prog n i)
-    fit_limit None i f = tt
-    fit_limit (Some n) i f = all.limiting i f
-
     -- an entry that is handed in, and whether it may set limits
-    fit_move : (n : Option (Node O)) (t : Place) (i : Entry) → Tame_move R (Enter t i) → (l : Bool) × Licence l t × Fit l (entering prog n i)
-    fit_move n t i (inl f) = (R.may_limit, (λ e. inl e), fit_of R.may_limit _ (fit_entry n i f))
-    fit_move n t i (inr f) = (true, (λ e. inr f.1), fit_of true _ (fit_limit n i f.0))
+    fit_move : (t : Place) (i : Entry) → Tame_move R (Enter t i) → (l : Bool) × Licence l t × Fit l (prog.entry i)
+    fit_move t i (inl f) = (R.may_limit, (λ e. inl e), fit_of R.may_limit _ (all.entries i f))
+    fit_move t i (inr f) = (true, (λ e. inr f.1), fit_of true _ (all.limiting i f.0))
 
     exits_kept : (w : World O) (p : Place) (s : Wait) (n : ℤ) (ms : List (Move O)) (v : World O) (e : Ending) → Exits w p s n ms v e → Good w → Kept w v
     exits_kept w p s n ms v e a g =
@@ -210,12 +204,12 @@ module _ {O I : Type 0} (R : Discipline O I) where
     keep q0 (wrapped w p b i k x inner left closed v y e j on s a t d) lic f g =
         let l = opens_allowed b w.tree p w.grants x f.1 j in
         let m = keep R.may_limit a (λ e. inl e) (fit_of R.may_limit _ (all.programs i f.0)) (good_step w _ x.1 inner l s g) in
-        let n = closes_allowed p b (left.tree p) f.1 (m.good.0 p) in
+        let n = closes_allowed p b (inner.tree p) (left.tree p) f.1 (m.good.0 p) in
         step_kept w _ x.1 inner v l s (then_kept inner left v m (step_kept left p _ closed v n t (keep q0 d lic (fit_of q0 _ (f.2 y)) (good_step left p _ closed n t m.good))))
     keep q0 (wrapped_passed w p b i k x inner left closed r q j on s a t) lic f g =
         let l = opens_allowed b w.tree p w.grants x f.1 j in
         let m = keep R.may_limit a (λ e. inl e) (fit_of R.may_limit _ (all.programs i f.0)) (good_step w _ x.1 inner l s g) in
-        let n = closes_allowed p b (left.tree p) f.1 (m.good.0 p) in
+        let n = closes_allowed p b (inner.tree p) (left.tree p) f.1 (m.good.0 p) in
         step_kept w _ x.1 inner closed l s (then_kept inner left closed m (step_kept left p _ closed closed n t (here closed (good_step left p _ closed n t m.good))))
     keep q0 (wrapped_halted w p b i k x inner left j on s a) lic f g =
         let l = opens_allowed b w.tree p w.grants x f.1 j in
@@ -230,42 +224,44 @@ module _ {O I : Type 0} (R : Discipline O I) where
     keep q0 (called w p None down i lost k a t out inner left told back v r y e z s1 j s2 x s3 so s4 b) lic f g = absurd (not_both refl z)
     keep q0 (called w p (Some h) down i lost k a t out inner left told back v r y e z s1 j s2 x s3 so s4 b) lic f g =
         let g1 = good_step w p _ out tt s1 g in
-        let m = keep R.may_limit x (λ e. inl e) (fit_of R.may_limit _ (fit_entry (out.tree t) i f.0)) (good_step out t _ inner tt s2 g1) in
+        let m = keep R.may_limit x (λ e. inl e) (fit_of R.may_limit _ (all.entries i f.0)) (good_step out t _ inner tt s2 g1) in
         let g3 = good_step left t _ told tt s3 m.good in
         step_kept w p _ out v tt s1 (step_kept out t _ inner v tt s2 (then_kept inner left v m (step_kept left t _ told v tt s3 (step_kept told p _ back v tt s4 (keep q0 b lic (fit_of q0 _ (f.1 _)) (good_step told p _ back tt s4 g3))))))
     keep q0 (called_passed w p None down i lost k a t out inner left told back r z s1 j s2 x s3 q s4) lic f g = absurd (not_both refl z)
     keep q0 (called_passed w p (Some h) down i lost k a t out inner left told back r z s1 j s2 x s3 q s4) lic f g =
         let g1 = good_step w p _ out tt s1 g in
-        let m = keep R.may_limit x (λ e. inl e) (fit_of R.may_limit _ (fit_entry (out.tree t) i f.0)) (good_step out t _ inner tt s2 g1) in
+        let m = keep R.may_limit x (λ e. inl e) (fit_of R.may_limit _ (all.entries i f.0)) (good_step out t _ inner tt s2 g1) in
         let g3 = good_step left t _ told tt s3 m.good in
         step_kept w p _ out back tt s1 (step_kept out t _ inner back tt s2 (then_kept inner left back m (step_kept left t _ told back tt s3 (step_kept told p _ back back tt s4 (here back (good_step told p _ back tt s4 g3))))))
     keep q0 (called_halted w p None down i lost k a t out inner left z s1 j s2 x) lic f g = absurd (not_both refl z)
     keep q0 (called_halted w p (Some h) down i lost k a t out inner left z s1 j s2 x) lic f g =
         let g1 = good_step w p _ out tt s1 g in
-        step_kept w p _ out left tt s1 (step_kept out t _ inner left tt s2 (keep R.may_limit x (λ e. inl e) (fit_of R.may_limit _ (fit_entry (out.tree t) i f.0)) (good_step out t _ inner tt s2 g1)))
+        step_kept w p _ out left tt s1 (step_kept out t _ inner left tt s2 (keep R.may_limit x (λ e. inl e) (fit_of R.may_limit _ (all.entries i f.0)) (good_step out t _ inner tt s2 g1)))
     keep q0 (unreached w p None down i lost k a out back v e z s1 j s2 x) lic f g = absurd (not_both refl z)
     keep q0 (unreached w p (Some h) down i lost k a out back v e z s1 j s2 x) lic f g =
         let g1 = good_step w p _ out tt s1 g in
         step_kept w p _ out v tt s1 (step_kept out p _ back v tt s2 (keep q0 x lic (fit_of q0 _ (f.1 _)) (good_step out p _ back tt s2 g1)))
     keep q0 (called_out w p h down i lost k u v e z s a) lic f g =
         let l : Allowed R p (Out h down i) = out_allowed p h down i f.0 in
-        step_kept w p _ u v l s (keep q0 a lic f.1 (good_step w p _ u l s g))
+        step_kept w p _ u v l s (keep q0 a lic (or_lost_all (Modest R q0) lost k f.1) (good_step w p _ u l s g))
     keep q0 (unanswered w p s k j m t) lic f g = here w g
     keep q0 (unfit w p s k m ms j l n t) lic f g = here w g
     keep q0 (answered w p s k y u v e j l t a) lic f g = step_kept w p _ u v tt t (keep q0 a lic (fit_of q0 _ (f _)) (good_step w p _ u tt t g))
     keep q0 (heard w p s k y u v e j l t a) lic f g = step_kept w p _ u v tt t (keep q0 a lic (fit_of q0 _ (f _)) (good_step w p _ u tt t g))
+    keep q0 (missed w p s k u v e j l t a) lic f g = step_kept w p _ u v tt t (keep q0 a lic (fit_of q0 _ (f _)) (good_step w p _ u tt t g))
     keep q0 (answered_passed w p s k r u q j l t) lic f g = step_kept w p _ u u tt t (here u (good_step w p _ u tt t g))
-    keep q0 (entered w p s k t i inner left told v r e j s1 a s2 n b) lic f g =
-        let m = (let y = fit_move (w.tree t) t i (entry_tame w t i inner s1 g) in keep y.0 a y.1 y.2) (good_step w t _ inner tt s1 g) in
+    keep q0 (entered w p s k t i inner left told v r e j here s1 a s2 n b) lic f g =
+        let m = (let y = fit_move t i (entry_tame w t i inner s1 g) in keep y.0 a y.1 y.2) (good_step w t _ inner tt s1 g) in
         step_kept w t _ inner v tt s1 (then_kept inner left v m (step_kept left t _ told v tt s2 (keep q0 b lic f (good_step left t _ told tt s2 m.good))))
-    keep q0 (entered_halted w p s k t i inner left j s1 a) lic f g =
-        step_kept w t _ inner left tt s1 ((let y = fit_move (w.tree t) t i (entry_tame w t i inner s1 g) in keep y.0 a y.1 y.2) (good_step w t _ inner tt s1 g))
-    keep q0 (entered_exiting w p s k t i inner left told v n e j s1 a s2 b) lic f g =
-        let m = (let y = fit_move (w.tree t) t i (entry_tame w t i inner s1 g) in keep y.0 a y.1 y.2) (good_step w t _ inner tt s1 g) in
+    keep q0 (entered_halted w p s k t i inner left j here s1 a) lic f g =
+        step_kept w t _ inner left tt s1 ((let y = fit_move t i (entry_tame w t i inner s1 g) in keep y.0 a y.1 y.2) (good_step w t _ inner tt s1 g))
+    keep q0 (entered_exiting w p s k t i inner left told v n e j here s1 a s2 b) lic f g =
+        let m = (let y = fit_move t i (entry_tame w t i inner s1 g) in keep y.0 a y.1 y.2) (good_step w t _ inner tt s1 g) in
         step_kept w t _ inner v tt s1 (then_kept inner left v m (step_kept left t _ told v tt s2 (exits_kept told p s n told.moves v e b (good_step left t _ told tt s2 m.good))))
     keep q0 (born w p s k o b u v e j t a) lic f g =
         let h : AreTame R (Born o b ∷ u.moves) = subst (AreTame R) t.moves g.1 in
         step_kept w [] _ u v h.0 t (keep q0 a lic f (good_step w [] _ u h.0 t g))
+    keep q0 (unfound w p s k t i u v e j here b a) lic f g = step_kept w [] _ u v tt b (keep q0 a lic f (good_step w [] _ u tt b g))
     keep q0 (fallen w p s k u v e j t a) lic f g = step_kept w [] _ u v tt t (keep q0 a lic f (good_step w [] _ u tt t g))
 
 pub bad : {A : Type 0} → false ≡ true → A

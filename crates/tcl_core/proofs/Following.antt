@@ -1,28 +1,29 @@
 -- What code executes is a run over the tape of what happened.
-use Rattle.std.proofs.Common.{◌≡◌, true, false, List, [], ◌∷◌, ◌++◌, Some, None, length, refl, sym, ◌∙◌, ap, subst, append_assoc, append-nil}
+use Rattle.std.proofs.Common.{◌≡◌, true, false, List, [], ◌∷◌, ◌++◌, Some, None, length, refl, sym, ◌∙◌, ap, subst, append_assoc, append-nil, ℕ, Option}
 use Rattle.tcl_core.specs.Paths.{Height, Path, Place, rise_to}
 use Rattle.tcl_core.specs.Endings.{Reply, IsQuit, refusal}
 use Rattle.tcl_core.specs.Endings.Meter.{Depth}
 use Rattle.tcl_core.specs.Entries.{Answer, Entry}
-use Rattle.tcl_core.specs.Entries.Said.{Finished, Told}
+use Rattle.tcl_core.specs.Entries.Said.{Finished, Told, Missed}
 use Rattle.tcl_core.specs.Endings.Reply.{Completed, Exit}
-use Rattle.tcl_core.specs.Entries.Answer.{Replied, Heard}
-use Rattle.tcl_core.specs.Trees.{Tree, What, Event, Move, Grant, Grants, at, effect, asked, granted}
+use Rattle.tcl_core.specs.Entries.Answer.{Replied, Heard, Nobody}
+use Rattle.tcl_core.specs.Trees.{Tree, What, Event, Move, Grant, Grants, at, effect, asked, granted, depth_of}
 use Rattle.tcl_core.specs.Trees.Grants.{Listed}
-use Rattle.tcl_core.specs.Trees.What.{Out, In, Done, Back}
+use Rattle.tcl_core.specs.Trees.What.{Out, In, Done, Back, Unfound}
 use Rattle.tcl_core.specs.Programs.{Calls_only, Deed, Wait, spot, Act, Wrap, Prog, Table, decide, opens, closes}
 use Rattle.tcl_core.specs.Programs.Prog.{call}
-use Rattle.tcl_core.specs.Runs.{World, Step, Runs, answers_call, carried, entering, height_of}
+use Rattle.tcl_core.specs.Runs.{World, Step, Runs, answers_call, carried, height_of, gone, gone_from}
 use Rattle.tcl_core.specs.Rules.{Derives}
 use Rattle.tcl_core.specs.Execution.{Executes, Chain, none, more, before, event, Makes, Decides, Open, Opens_so, answers_to, calls_after, last_call, pending, with_call, without_call}
-use Rattle.tcl_core.specs.Execution.Executes.{completed, exited, acted, refused, went, passed, wrapped, wrapped_passed, too_deep, shut, called, called_passed, unreached, called_out, answered, heard, answered_passed, entered, entered_exiting}
+use Rattle.tcl_core.specs.Execution.Executes.{completed, exited, acted, refused, went, passed, wrapped, wrapped_passed, too_deep, shut, called, called_passed, unreached, called_out, answered, heard, missed, answered_passed, entered, entered_exiting, unfound}
 use Rattle.tcl_core.specs.Views.{moves_of, grants_of}
-use Rattle.tcl_core.proofs.Callers.{Fits, entering_calls, fit, no_wait, waits_for}
+use Rattle.tcl_core.proofs.Callers.{Fits, fit, no_wait, waits_for, or_lost_all}
 use Rattle.tcl_core.proofs.Plain.{IsPlain, closes_plain, decide_plain, opens_plain}
 use Rattle.tcl_core.proofs.TreeLaws.{listed_one}
 use Rattle.tcl_core.proofs.Seeing.{is_exit_self}
 use Rattle.tcl_core.proofs.Subtrees.{exit_answer}
 use Rattle.tcl_core.proofs.RuleLaws.{derived_runs}
+use Rattle.tcl_core.specs.Endings.Kind.{Full}
 
 -- what is left after some happenings
 pub record Rest (O : Type 0) : Type 0 where
@@ -99,10 +100,10 @@ module _ {O : Type 0} where
   plain_answers p (Back h a) cs f = absurd f
   plain_answers p x cs f = refl
 
-  pub plain_calls : (p : Place) (x : What O) (cs : Open) → IsPlain x → calls_after p x cs ≡ cs
-  plain_calls p (Out h d i) cs f = absurd f
-  plain_calls p (Back h a) cs f = absurd f
-  plain_calls p x cs f = refl
+  pub plain_calls : (T : Tree O) (p : Place) (x : What O) (cs : Open) → IsPlain x → calls_after T p x cs ≡ cs
+  plain_calls T p (Out h d i) cs f = absurd f
+  plain_calls T p (Back h a) cs f = absurd f
+  plain_calls T p x cs f = refl
 
   pub plain_deed : (d : Act O) (T : Tree O) (p : Place) (x : Deed O) → Decides d T p x → IsPlain x.1
   plain_deed d T p x f = decide_plain d T p _ x (f [])
@@ -128,21 +129,21 @@ module _ {O S : Type 0} (step : Tree O → S → Wait → Event O → S → Type
 
   pub plain_more : {cs ds : Open} {T V : Tree O} {o u z : S} {p : Place} {x : What O} {τ : List (Event O)} → IsPlain x → step T o None (event p x) u → Chain step cs (effect p x T) u τ ds V z → Chain step cs T o (event p x ∷ τ) ds V z
   plain_more {cs} {ds} {T} {V} {o} {u} {z} {p} {x} {τ} f s c =
-      more (subst (λ w. step T o w (event p x) u) (sym (plain_answers p x cs f)) s) (subst (λ l. Chain step l (effect p x T) u τ ds V z) (sym (plain_calls p x cs f)) c)
+      more (subst (λ w. step T o w (event p x) u) (sym (plain_answers p x cs f)) s) (subst (λ l. Chain step l (effect p x T) u τ ds V z) (sym (plain_calls T p x cs f)) c)
 
   -- a call of another interpreter of the tree, and its answer
   pub goes_within : {cs ds : Open} {T V : Tree O} {o u z : S} {p a : Place} {h : Height} {down : Path} {i : Entry} {τ : List (Event O)} → rise_to h p ≡ Some a → step T o None (event p (Out h down i)) u → Chain step cs T u τ ds V z → Chain step cs T o (event p (Out h down i) ∷ τ) ds V z
-  goes_within {cs} {ds} {T} {V} {o} {u} {z} {p} {a} {h} {down} {i} {τ} e s c = more s (subst (λ l. Chain step l T u τ ds V z) (ap (λ y. with_call y (h, i) cs) (sym e)) c)
+  goes_within {cs} {ds} {T} {V} {o} {u} {z} {p} {a} {h} {down} {i} {τ} e s c = more s (subst (λ l. Chain step l T u τ ds V z) (ap (λ y. with_call y (h, i, depth_of (T p)) cs) (sym e)) c)
 
   pub back_within : {cs ds : Open} {T V : Tree O} {o u z : S} {p a : Place} {h : Height} {y : Answer} {τ : List (Event O)} → rise_to h p ≡ Some a → step T o None (event p (Back h y)) u → Chain step cs T u τ ds V z → Chain step cs T o (event p (Back h y) ∷ τ) ds V z
   back_within {cs} {ds} {T} {V} {o} {u} {z} {p} {a} {h} {y} {τ} e s c =
       more (subst (λ w. step T o w (event p (Back h y)) u) (ap (λ b. last_call b cs) (sym e)) s) (subst (λ l. Chain step l T u τ ds V z) (ap (λ b. without_call b cs) (sym e)) c)
 
   -- a call that leaves the tree, and its answer
-  pub goes_out : {cs ds : Open} {T V : Tree O} {o u z : S} {p : Place} {h : Height} {down : Path} {i : Entry} {τ : List (Event O)} → rise_to h p ≡ None → step T o None (event p (Out h down i)) u → Chain step ((h, i) ∷ cs) T u τ ds V z → Chain step cs T o (event p (Out h down i) ∷ τ) ds V z
-  goes_out {cs} {ds} {T} {V} {o} {u} {z} {p} {h} {down} {i} {τ} e s c = more s (subst (λ l. Chain step l T u τ ds V z) (ap (λ y. with_call y (h, i) cs) (sym e)) c)
+  pub goes_out : {cs ds : Open} {T V : Tree O} {o u z : S} {p : Place} {h : Height} {down : Path} {i : Entry} {τ : List (Event O)} → rise_to h p ≡ None → step T o None (event p (Out h down i)) u → Chain step ((h, i, depth_of (T p)) ∷ cs) T u τ ds V z → Chain step cs T o (event p (Out h down i) ∷ τ) ds V z
+  goes_out {cs} {ds} {T} {V} {o} {u} {z} {p} {h} {down} {i} {τ} e s c = more s (subst (λ l. Chain step l T u τ ds V z) (ap (λ y. with_call y (h, i, depth_of (T p)) cs) (sym e)) c)
 
-  pub comes_back : {cs ds : Open} {T V : Tree O} {o u z : S} {p : Place} {c : Height × Entry} {y : Answer} {τ : List (Event O)} → rise_to c.0 p ≡ None → step T o (Some c) (event p (Back c.0 y)) u → Chain step cs T u τ ds V z → Chain step (c ∷ cs) T o (event p (Back c.0 y) ∷ τ) ds V z
+  pub comes_back : {cs ds : Open} {T V : Tree O} {o u z : S} {p : Place} {c : Height × Entry × ℕ} {y : Answer} {τ : List (Event O)} → rise_to c.0 p ≡ None → step T o (Some c) (event p (Back c.0 y)) u → Chain step cs T u τ ds V z → Chain step (c ∷ cs) T o (event p (Back c.0 y) ∷ τ) ds V z
   comes_back {cs} {ds} {T} {V} {o} {u} {z} {p} {c} {y} {τ} e s k =
       more (subst (λ w. step T o w (event p (Back c.0 y)) u) (ap (λ b. last_call b (c ∷ cs)) (sym e)) s) (subst (λ l. Chain step l T u τ ds V z) (ap (λ b. without_call b (c ∷ cs)) (sym e)) k)
 
@@ -151,10 +152,10 @@ module _ {O S : Type 0} (step : Tree O → S → Wait → Event O → S → Type
   called_on {I} {cs} {ds} {T} {V} {o} {z} {τ} x f c = subst (λ l. Chain step l T o τ ds V z) (waits_not x cs f) c
 
   -- an answer comes to the call that is open
-  pub replied : {cs ds : Open} {T V : Tree O} {o u z : S} {τ : List (Event O)} (s : Wait) (p : Place) → rise_to (height_of s) p ≡ None → (a : Answer) → answers_call s a ≡ true →
+  pub replied : {cs ds : Open} {T V : Tree O} {o u z : S} {τ : List (Event O)} (s : Wait) (p : Place) → rise_to (height_of s) p ≡ None → (a : Answer) (g : Option ℕ) → answers_call g s a ≡ true →
       step T o s (event p (Back (height_of s) a)) u → Chain step cs T u τ ds V z → Chain step (pending s cs) T o (event p (Back (height_of s) a) ∷ τ) ds V z
-  replied None p e a f j c = absurd (not_true f)
-  replied (Some d) p e a f j c = comes_back e j c
+  replied None p e a g f j c = absurd (not_true f)
+  replied (Some d) p e a g f j c = comes_back e j c
 
 module _ {O I S : Type 0} (step : Tree O → S → Wait → Event O → S → Type 0) (prog : Table O I) where
   pub record Says (T : Tree O) (o : S) (p : Place) (x : Prog O I) (V : Tree O) (z : S) (r : Reply) : Type 0 where
@@ -197,31 +198,31 @@ module _ {O I S : Type 0} (step : Tree O → S → Wait → Event O → S → Ty
   follows f (wrapped {T} {U} {V} {o} {o1} {o2} {o3} {z} {p} {b} {i} {k} {c} {r} x is_so on s1 a s2 t) =
       let h = follows (fit (prog.program i) (prog.programs_call i)) a in
       let g = follows (fit (k c) (f c)) t in
-      let tail : List (Event O) = event p (closes b (U p)) ∷ g.events in
+      let tail : List (Event O) = event p (closes b (effect (spot p x.0) x.1 T p) (U p)) ∷ g.events in
       record {
         events = event (spot p x.0) x.1 ∷ (h.events ++ tail);
-        chain = λ cs. plain_more step (plain_open b T p x is_so) s1 (chain-append step (called_on step (prog.program i) (prog.programs_call i) (h.chain cs)) (plain_more step (closes_plain b (U p)) s2 (called_on step (k c) (f c) (g.chain cs))));
-        runs = λ y. Derives.wrapped _ p b i k x (ahead (effect (spot p x.0) x.1 T) (h.events ++ tail) y) (ahead U tail y) (ahead (effect p (closes b (U p)) U) g.events y) _ c _
+        chain = λ cs. plain_more step (plain_open b T p x is_so) s1 (chain-append step (called_on step (prog.program i) (prog.programs_call i) (h.chain cs)) (plain_more step (closes_plain b (effect (spot p x.0) x.1 T p) (U p)) s2 (called_on step (k c) (f c) (g.chain cs))));
+        runs = λ y. Derives.wrapped _ p b i k x (ahead (effect (spot p x.0) x.1 T) (h.events ++ tail) y) (ahead U tail y) (ahead (effect p (closes b (effect (spot p x.0) x.1 T p) (U p)) U) g.events y) _ c _
             (opened b T p x is_so (h.events ++ tail) y) on (next T (spot p x.0) x.1 (h.events ++ tail) y)
             (first (effect (spot p x.0) x.1 T) U p (prog.program i) (Completed c) h.events tail y (h.runs (later tail y)))
-            (next U p (closes b (U p)) g.events y) (g.runs y);
+            (next U p (closes b (effect (spot p x.0) x.1 T p) (U p)) g.events y) (g.runs y);
       }
   follows f (wrapped_passed {T} {U} {o} {o1} {o2} {o3} {p} {b} {i} {k} {r} x q is_so on s1 a s2) =
       let h = follows (fit (prog.program i) (prog.programs_call i)) a in
-      let tail : List (Event O) = event p (closes b (U p)) ∷ [] in
+      let tail : List (Event O) = event p (closes b (effect (spot p x.0) x.1 T p) (U p)) ∷ [] in
       record {
         events = event (spot p x.0) x.1 ∷ (h.events ++ tail);
-        chain = λ cs. plain_more step (plain_open b T p x is_so) s1 (chain-append step (called_on step (prog.program i) (prog.programs_call i) (h.chain cs)) (plain_more step (closes_plain b (U p)) s2 none));
-        runs = λ y. Derives.wrapped_passed _ p b i k x (ahead (effect (spot p x.0) x.1 T) (h.events ++ tail) y) (ahead U tail y) (ahead (effect p (closes b (U p)) U) [] y) r q
+        chain = λ cs. plain_more step (plain_open b T p x is_so) s1 (chain-append step (called_on step (prog.program i) (prog.programs_call i) (h.chain cs)) (plain_more step (closes_plain b (effect (spot p x.0) x.1 T p) (U p)) s2 none));
+        runs = λ y. Derives.wrapped_passed _ p b i k x (ahead (effect (spot p x.0) x.1 T) (h.events ++ tail) y) (ahead U tail y) (ahead (effect p (closes b (effect (spot p x.0) x.1 T p) (U p)) U) [] y) r q
             (opened b T p x is_so (h.events ++ tail) y) on (next T (spot p x.0) x.1 (h.events ++ tail) y)
             (first (effect (spot p x.0) x.1 T) U p (prog.program i) r h.events tail y (h.runs (later tail y)))
-            (next U p (closes b (U p)) [] y);
+            (next U p (closes b (effect (spot p x.0) x.1 T p) (U p)) [] y);
       }
   follows f (too_deep {T} {V} {o} {u} {z} {p} {b} {i} {k} {r} x is_so deep s t) =
-      let g = follows (fit (k (refusal Depth)) (f (refusal Depth))) t in
+      let g = follows (fit (k (refusal (Full Depth))) (f (refusal (Full Depth)))) t in
       record {
         events = event (spot p x.0) x.1 ∷ g.events;
-        chain = λ cs. plain_more step (plain_open b T p x is_so) s (called_on step (k (refusal Depth)) (f (refusal Depth)) (g.chain cs));
+        chain = λ cs. plain_more step (plain_open b T p x is_so) s (called_on step (k (refusal (Full Depth))) (f (refusal (Full Depth))) (g.chain cs));
         runs = λ y. Derives.too_deep _ p b i k x (ahead (effect (spot p x.0) x.1 T) g.events y) _ _ (opened b T p x is_so g.events y) deep (next T (spot p x.0) x.1 g.events y) (g.runs y);
       }
   follows f (shut {T} {o} {u} {p} {b} {i} {k} {r} x is_so off s) =
@@ -231,30 +232,30 @@ module _ {O I S : Type 0} (step : Tree O → S → Wait → Event O → S → Ty
         runs = λ y. Derives.shut _ p b i k x r (ahead (effect (spot p x.0) x.1 T) [] y) (opened b T p x is_so [] y) off (next T (spot p x.0) x.1 [] y);
       }
   follows calls (called {T} {U} {V} {o} {o1} {o2} {o3} {o4} {o5} {z} {p} {h} {down} {i} {lost} {k} {s} {r} {c} a t e there s1 s2 m s3 so s4 n) =
-      let f = follows (fit (entering prog (T t) i) (entering_calls prog (T t) i)) m in
+      let f = follows (fit (prog.entry i) (prog.entries_call i)) m in
       let g = follows (fit (k (Finished c)) (calls (Finished c))) n in
-      let last : List (Event O) = event p (Back h (Replied (carried h p down s))) ∷ g.events in
+      let last : List (Event O) = event p (Back h (Replied (carried (gone (depth_of (T p)) U p) h p down s))) ∷ g.events in
       let tail : List (Event O) = event t (Done (Some (length down)) s) ∷ last in
       record {
         events = event p (Out h down i) ∷ event t (In (Some (length down)) i) ∷ (f.events ++ tail);
-        chain = λ cs. goes_within step e s1 (more s2 (chain-append step (called_on step (entering prog (T t) i) (entering_calls prog (T t) i) (f.chain cs)) (more s3 (back_within step e s4 (called_on step (k (Finished c)) (calls (Finished c)) (g.chain cs))))));
+        chain = λ cs. goes_within step e s1 (more s2 (chain-append step (called_on step (prog.entry i) (prog.entries_call i) (f.chain cs)) (more s3 (back_within step e s4 (called_on step (k (Finished c)) (calls (Finished c)) (g.chain cs))))));
         runs = λ y. Derives.called _ p h down i lost k a t (ahead T (event t (In (Some (length down)) i) ∷ (f.events ++ tail)) y) (ahead T (f.events ++ tail) y) (ahead U tail y) (ahead U last y) (ahead U g.events y) _ s c _ e
             (next T p (Out h down i) (event t (In (Some (length down)) i) ∷ (f.events ++ tail)) y) there (next T t (In (Some (length down)) i) (f.events ++ tail) y)
-            (first T U t (entering prog (T t) i) s f.events tail y (f.runs (later tail y)))
-            (next U t (Done (Some (length down)) s) last y) so (next U p (Back h (Replied (carried h p down s))) g.events y) (g.runs y);
+            (first T U t (prog.entry i) s f.events tail y (f.runs (later tail y)))
+            (next U t (Done (Some (length down)) s) last y) so (next U p (Back h (Replied (carried (gone (depth_of (T p)) U p) h p down s))) g.events y) (g.runs y);
       }
   follows calls (called_passed {T} {U} {o} {o1} {o2} {o3} {o4} {o5} {p} {h} {down} {i} {lost} {k} {s} {r} a t e there s1 s2 m s3 so q s4) =
-      let f = follows (fit (entering prog (T t) i) (entering_calls prog (T t) i)) m in
-      let last : List (Event O) = event p (Back h (Replied (carried h p down s))) ∷ [] in
+      let f = follows (fit (prog.entry i) (prog.entries_call i)) m in
+      let last : List (Event O) = event p (Back h (Replied (carried (gone (depth_of (T p)) U p) h p down s))) ∷ [] in
       let tail : List (Event O) = event t (Done (Some (length down)) s) ∷ last in
       record {
         events = event p (Out h down i) ∷ event t (In (Some (length down)) i) ∷ (f.events ++ tail);
-        chain = λ cs. goes_within step e s1 (more s2 (chain-append step (called_on step (entering prog (T t) i) (entering_calls prog (T t) i) (f.chain cs)) (more s3 (back_within step e (subst (λ l. step U o4 None (event p (Back h (Replied l))) o5) (sym so) s4) none))));
+        chain = λ cs. goes_within step e s1 (more s2 (chain-append step (called_on step (prog.entry i) (prog.entries_call i) (f.chain cs)) (more s3 (back_within step e (subst (λ l. step U o4 None (event p (Back h (Replied l))) o5) (sym so) s4) none))));
         runs = λ y. subst (λ l. Derives prog (ahead T (event p (Out h down i) ∷ event t (In (Some (length down)) i) ∷ (f.events ++ tail)) y) p (call h down i lost k) (ahead U [] y) (Some l)) so
             (Derives.called_passed _ p h down i lost k a t (ahead T (event t (In (Some (length down)) i) ∷ (f.events ++ tail)) y) (ahead T (f.events ++ tail) y) (ahead U tail y) (ahead U last y) (ahead U [] y) s e
             (next T p (Out h down i) (event t (In (Some (length down)) i) ∷ (f.events ++ tail)) y) there (next T t (In (Some (length down)) i) (f.events ++ tail) y)
-            (first T U t (entering prog (T t) i) s f.events tail y (f.runs (later tail y)))
-            (next U t (Done (Some (length down)) s) last y) (subst IsQuit (sym so) q) (next U p (Back h (Replied (carried h p down s))) [] y));
+            (first T U t (prog.entry i) s f.events tail y (f.runs (later tail y)))
+            (next U t (Done (Some (length down)) s) last y) (subst IsQuit (sym so) q) (next U p (Back h (Replied (carried (gone (depth_of (T p)) U p) h p down s))) [] y));
       }
   follows calls (unreached {T} {V} {o} {o1} {o2} {z} {p} {h} {down} {i} {lost} {k} {r} a e there s1 s2 t) =
       let g = follows (fit (k (Finished lost)) (calls (Finished lost))) t in
@@ -265,7 +266,7 @@ module _ {O I S : Type 0} (step : Tree O → S → Wait → Event O → S → Ty
         runs = λ y. Derives.unreached _ p h down i lost k a (ahead T tail y) (ahead T g.events y) _ _ e (next T p (Out h down i) tail y) there (next T p (Back h (Replied (Completed lost))) g.events y) (g.runs y);
       }
   follows calls (called_out {T} {V} {o} {u} {z} {p} {h} {down} {i} {lost} {k} {r} e s t) =
-      let g = follows calls t in
+      let g = follows (or_lost_all Calls_only lost k calls) t in
       record {
         events = event p (Out h down i) ∷ g.events;
         chain = λ cs. goes_out step e s (g.chain cs);
@@ -275,42 +276,57 @@ module _ {O I S : Type 0} (step : Tree O → S → Wait → Event O → S → Ty
       let g = follows (fit (k (Finished c)) (calls (Finished c))) t in
       record {
         events = event p (Back (height_of s) (Replied (Completed c))) ∷ g.events;
-        chain = λ cs. replied step s p e (Replied (Completed c)) own j (called_on step (k (Finished c)) (calls (Finished c)) (g.chain cs));
+        chain = λ cs. replied step s p e (Replied (Completed c)) (gone_from s T p) own j (called_on step (k (Finished c)) (calls (Finished c)) (g.chain cs));
         runs = λ y. Derives.answered _ p s k c (ahead T g.events y) _ _ e own (next T p (Back (height_of s) (Replied (Completed c))) g.events y) (g.runs y);
       }
   follows calls (heard {T} {V} {o} {u} {z} {p} {s} {k} {a} {r} e own j t) =
       let g = follows (fit (k (Told a)) (calls (Told a))) t in
       record {
         events = event p (Back (height_of s) (Heard a)) ∷ g.events;
-        chain = λ cs. replied step s p e (Heard a) own j (called_on step (k (Told a)) (calls (Told a)) (g.chain cs));
+        chain = λ cs. replied step s p e (Heard a) (gone_from s T p) own j (called_on step (k (Told a)) (calls (Told a)) (g.chain cs));
         runs = λ y. Derives.heard _ p s k a (ahead T g.events y) _ _ e own (next T p (Back (height_of s) (Heard a)) g.events y) (g.runs y);
+      }
+  follows calls (missed {T} {V} {o} {u} {z} {p} {s} {k} {r} e own j t) =
+      let g = follows (fit (k Missed) (calls Missed)) t in
+      record {
+        events = event p (Back (height_of s) Nobody) ∷ g.events;
+        chain = λ cs. replied step s p e Nobody (gone_from s T p) own j (called_on step (k Missed) (calls Missed) (g.chain cs));
+        runs = λ y. Derives.missed _ p s k (ahead T g.events y) _ _ e own (next T p (Back (height_of s) Nobody) g.events y) (g.runs y);
       }
   follows calls (answered_passed {T} {o} {u} {p} {s} {k} {r} q e own j) =
       record {
         events = event p (Back (height_of s) (Replied r)) ∷ [];
-        chain = λ cs. replied step s p e (Replied r) own j none;
+        chain = λ cs. replied step s p e (Replied r) (gone_from s T p) own j none;
         runs = λ y. Derives.answered_passed _ p s k r (ahead T [] y) q e own (next T p (Back (height_of s) (Replied r)) [] y);
       }
-  follows calls (entered {T} {U} {V} {o} {o1} {o2} {o3} {z} {p} {s} {k} {y = j} {r} t i e s1 m s2 calm n) =
-      let f = follows (fit (entering prog (T t) i) (entering_calls prog (T t) i)) m in
+  follows calls (entered {T = T} {U = U} {p = p} {s = s} {k = k} {y = j} t i e here s1 m s2 calm n) =
+      let f = follows (fit (prog.entry i) (prog.entries_call i)) m in
       let g = follows calls n in
       let tail : List (Event O) = event t (Done None j) ∷ g.events in
       record {
         events = event t (In None i) ∷ (f.events ++ tail);
-        chain = λ cs. more s1 (chain-append step (called_on step (entering prog (T t) i) (entering_calls prog (T t) i) (f.chain (pending s cs))) (more s2 (g.chain cs)));
-        runs = λ y. Derives.entered _ p s k t i (ahead T (f.events ++ tail) y) (ahead U tail y) (ahead U g.events y) _ j _ e
-            (next T t (In None i) (f.events ++ tail) y) (first T U t (entering prog (T t) i) j f.events tail y (f.runs (later tail y))) (next U t (Done None j) g.events y) calm (g.runs y);
+        chain = λ cs. more s1 (chain-append step (called_on step (prog.entry i) (prog.entries_call i) (f.chain (pending s cs))) (more s2 (g.chain cs)));
+        runs = λ y. Derives.entered _ p s k t i (ahead T (f.events ++ tail) y) (ahead U tail y) (ahead U g.events y) _ j _ e here
+            (next T t (In None i) (f.events ++ tail) y) (first T U t (prog.entry i) j f.events tail y (f.runs (later tail y))) (next U t (Done None j) g.events y) calm (g.runs y);
       }
-  follows calls (entered_exiting {T} {U} {o} {o1} {o2} {o3} {o4} {p} {c} {k} {n} t i e s1 m s2 s3) =
-      let f = follows (fit (entering prog (T t) i) (entering_calls prog (T t) i)) m in
+  follows calls (entered_exiting {T = T} {U = U} {p = p} {c = c} {k = k} {n = n} t i e here s1 m s2 s3) =
+      let f = follows (fit (prog.entry i) (prog.entries_call i)) m in
       let last : List (Event O) = event p (Back c.0 (Replied (Exit n))) ∷ [] in
       let tail : List (Event O) = event t (Done None (Exit n)) ∷ last in
       record {
         events = event t (In None i) ∷ (f.events ++ tail);
-        chain = λ cs. more s1 (chain-append step (called_on step (entering prog (T t) i) (entering_calls prog (T t) i) (f.chain (c ∷ cs))) (more s2 (comes_back step e s3 none)));
-        runs = λ y. Derives.entered_exiting _ p (Some c) k t i (ahead T (f.events ++ tail) y) (ahead U tail y) (ahead U last y) (ahead U [] y) n (Some (Exit n)) e
-            (next T t (In None i) (f.events ++ tail) y) (first T U t (entering prog (T t) i) (Exit n) f.events tail y (f.runs (later tail y))) (next U t (Done None (Exit n)) last y)
+        chain = λ cs. more s1 (chain-append step (called_on step (prog.entry i) (prog.entries_call i) (f.chain (c ∷ cs))) (more s2 (comes_back step e s3 none)));
+        runs = λ y. Derives.entered_exiting _ p (Some c) k t i (ahead T (f.events ++ tail) y) (ahead U tail y) (ahead U last y) (ahead U [] y) n (Some (Exit n)) e here
+            (next T t (In None i) (f.events ++ tail) y) (first T U t (prog.entry i) (Exit n) f.events tail y (f.runs (later tail y))) (next U t (Done None (Exit n)) last y)
             (exit_answer (ahead U last y) p (Some c) n (ahead U [] y) e (is_exit_self n) (next U p (Back c.0 (Replied (Exit n))) [] y));
+      }
+
+  follows calls (unfound {T = T} {p = p} {s = s} {k = k} t i e here j n) =
+      let g = follows calls n in
+      record {
+        events = event [] (Unfound t i (prog.lost t)) ∷ g.events;
+        chain = λ cs. more j (g.chain cs);
+        runs = λ y. Derives.unfound _ p s k t i (ahead T g.events y) _ _ e here (next T [] (Unfound t i (prog.lost t)) g.events y) (g.runs y);
       }
 
   pub makes : {T V : Tree O} {o z : S} {p : Place} {x : Prog O I} {r : Reply} → Fits x → Executes step prog T o p x V z r → Makes step prog T o p x V z r

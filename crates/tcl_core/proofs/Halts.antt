@@ -10,7 +10,7 @@ use Rattle.tcl_core.specs.Trees.Move.{Born, Fall, Enter, Come}
 use Rattle.tcl_core.specs.Programs.{Wait, Prog, Table}
 use Rattle.tcl_core.specs.Runs.{World, Step, Ending, Halts, Exits, Exiting, ends_call, height_of}
 use Rattle.tcl_core.specs.Rules.{Derives}
-use Rattle.tcl_core.specs.Rules.Derives.{completed, exited, acted, refused, unheard, went, passed, halted, wrapped, wrapped_passed, wrapped_halted, too_deep, shut, unheard_inside, called, called_passed, called_halted, unreached, called_out, unanswered, unfit, answered, heard, answered_passed, entered, entered_halted, entered_exiting, born, fallen}
+use Rattle.tcl_core.specs.Rules.Derives.{completed, exited, acted, refused, unheard, went, passed, halted, wrapped, wrapped_passed, wrapped_halted, too_deep, shut, unheard_inside, called, called_passed, called_halted, unreached, called_out, unanswered, unfit, answered, heard, missed, answered_passed, entered, entered_halted, entered_exiting, born, fallen, unfound}
 
 -- What holds at an exit, and where it comes back to a call, holds wherever it leads.
 pub exits_so : {O : Type 0} (Q : World O → Type 0) (w : World O) (p : Place) (s : Wait) (n : ℤ) (ms : List (Move O)) (v : World O) (e : Ending) → Q w → (Step w p (Back (height_of s) (Replied (Exit n))) v → Q v) → Exits w p s n ms v e → Q v
@@ -79,9 +79,11 @@ module _ {O I : Type 0} (prog : Table O I) where
   halted_tape (unfit w p s k m ms f g h t) q = t
   halted_tape (answered w p s k c u v e f g t a) q = halted_tape a q
   halted_tape (heard w p s k y u v e f g t a) q = halted_tape a q
+  halted_tape (missed w p s k u v e f g t a) q = halted_tape a q
   halted_tape (answered_passed w p s k r u l f g t) q = some_not r q
-  halted_tape (entered w p s k t i inner left told v r e f s1 a s2 n b) q = halted_tape b q
-  halted_tape (entered_halted w p s k t i inner left f s1 a) q = halted_tape a q
-  halted_tape (entered_exiting w p s k t i inner left told v n e f s1 a s2 b) q = exits_tape told p s n told.moves v e q b
+  halted_tape (entered w p s k t i inner left told v r e f here s1 a s2 n b) q = halted_tape b q
+  halted_tape (entered_halted w p s k t i inner left f here s1 a) q = halted_tape a q
+  halted_tape (entered_exiting w p s k t i inner left told v n e f here s1 a s2 b) q = exits_tape told p s n told.moves v e q b
   halted_tape (born w p s k o b u v e f t a) q = halted_tape a q
   halted_tape (fallen w p s k u v e f t a) q = halted_tape a q
+  halted_tape (unfound w p s k t i u v e f here b a) q = halted_tape a q

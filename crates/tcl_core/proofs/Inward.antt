@@ -5,15 +5,14 @@ use Rattle.tcl_core.specs.Trees.{Node, What, effect}
 use Rattle.tcl_core.specs.Trees.What.{Out, In, Done}
 use Rattle.tcl_core.specs.Programs.{spot, Prog, Table}
 use Rattle.tcl_core.specs.Programs.{Calls_only}
-use Rattle.tcl_core.specs.Runs.{World, Step, Ending, entering, where_stands}
+use Rattle.tcl_core.specs.Runs.{World, Step, Ending, where_stands}
 use Rattle.tcl_core.specs.Rules.{Derives}
-use Rattle.tcl_core.specs.Rules.Derives.{completed, exited, acted, refused, unheard, went, passed, halted, wrapped, wrapped_passed, wrapped_halted, too_deep, shut, unheard_inside, called, called_passed, called_halted, unreached, called_out, unanswered, unfit, answered, heard, answered_passed, entered, entered_halted, entered_exiting, born, fallen}
+use Rattle.tcl_core.specs.Rules.Derives.{completed, exited, acted, refused, unheard, went, passed, halted, wrapped, wrapped_passed, wrapped_halted, too_deep, shut, unheard_inside, called, called_passed, called_halted, unreached, called_out, unanswered, unfit, answered, heard, missed, answered_passed, entered, entered_halted, entered_exiting, born, fallen, unfound}
 use Rattle.tcl_core.specs.Laws.{rest, Inward, AreInward, Untouched}
 use Rattle.tcl_core.proofs.PathLaws.{Some-inj, strip_own, strip-sound, rise_to_within, rise_to_past}
 use Rattle.tcl_core.proofs.TreeLaws.{reached_at, spot_in}
 use Rattle.tcl_core.proofs.Outside.{effect_rest}
 use Rattle.tcl_core.proofs.RuleLaws.{runs_derived}
-use Rattle.tcl_core.proofs.Callers.{entering_calls}
 
 pub past : (c p q : Place) (h : Height) → strip c p ≡ Some q → rise_to h p ≡ None → rise_to h q ≡ None
 past c p q h e f = rise_to_past c q h (subst (λ r. rise_to h r ≡ None) (strip-sound c p q e) f)
@@ -73,17 +72,17 @@ module _ {O I : Type 0} (c : Place) (prog : Table O I) where
   keep (called w p h down i lost k a t out inner left told back v r y e g s1 j s2 x s3 so s4 b) q n f m =
       let o : Stepped c w (Some q) (Out h down i) out = one c w p q (Out h down i) out n s1 m in
       let z : (z : Place) × (strip c t ≡ Some z) = goes_to c p q a h down t (out.tree (a ++ down)) n g o.1 j in
-      step c w p q _ out v n s1 m (λ l. step c out t z.0 _ inner v z.1 s2 l (λ l2. run c inner left v (keep x z.0 z.1 (entering_calls prog (out.tree t) i) l2)
+      step c w p q _ out v n s1 m (λ l. step c out t z.0 _ inner v z.1 s2 l (λ l2. run c inner left v (keep x z.0 z.1 (prog.entries_call i) l2)
       (λ l3. step c left t z.0 _ told v z.1 s3 l3 (λ l4. step c told p q _ back v n s4 l4 (λ l5. keep b q n (f _) l5)))))
   keep (called_passed w p h down i lost k a t out inner left told back r g s1 j s2 x s3 y s4) q n f m =
       let o : Stepped c w (Some q) (Out h down i) out = one c w p q (Out h down i) out n s1 m in
       let z : (z : Place) × (strip c t ≡ Some z) = goes_to c p q a h down t (out.tree (a ++ down)) n g o.1 j in
-      step c w p q _ out back n s1 m (λ l. step c out t z.0 _ inner back z.1 s2 l (λ l2. run c inner left back (keep x z.0 z.1 (entering_calls prog (out.tree t) i) l2)
+      step c w p q _ out back n s1 m (λ l. step c out t z.0 _ inner back z.1 s2 l (λ l2. run c inner left back (keep x z.0 z.1 (prog.entries_call i) l2)
       (λ l3. step c left t z.0 _ told back z.1 s3 l3 (λ l4. step c told p q _ back back n s4 l4 (λ l5. (refl, l5))))))
   keep (called_halted w p h down i lost k a t out inner left g s1 j s2 x) q n f m =
       let o : Stepped c w (Some q) (Out h down i) out = one c w p q (Out h down i) out n s1 m in
       let z : (z : Place) × (strip c t ≡ Some z) = goes_to c p q a h down t (out.tree (a ++ down)) n g o.1 j in
-      step c w p q _ out left n s1 m (λ l. step c out t z.0 _ inner left z.1 s2 l (λ l2. keep x z.0 z.1 (entering_calls prog (out.tree t) i) l2))
+      step c w p q _ out left n s1 m (λ l. step c out t z.0 _ inner left z.1 s2 l (λ l2. keep x z.0 z.1 (prog.entries_call i) l2))
   keep (unreached w p h down i lost k a out back v e g s1 j s2 x) q n f m = step c w p q _ out v n s1 m (λ l. step c out p q _ back v n s2 l (λ l2. keep x q n (f _) l2))
   keep (called_out w p h down i lost k u v e g s a) q n f m =
       let o : Stepped c w (Some q) (Out h down i) u = one c w p q (Out h down i) u n s m in
@@ -92,18 +91,20 @@ module _ {O I : Type 0} (c : Place) (prog : Table O I) where
   keep (unfit w p s k m ms g j l t) q n f h = absurd f
   keep (answered w p s k y u v e g j t a) q n f h = absurd f
   keep (heard w p s k y u v e g j t a) q n f h = absurd f
+  keep (missed w p s k u v e g j t a) q n f h = absurd f
   keep (answered_passed w p s k r u l g j t) q n f h = absurd f
-  keep (entered w p s k t i inner left told v r e g s1 a s2 m b) q n f h = absurd f
-  keep (entered_halted w p s k t i inner left g s1 a) q n f h = absurd f
-  keep (entered_exiting w p s k t i inner left told v m e g s1 a s2 b) q n f h = absurd f
+  keep (entered w p s k t i inner left told v r e g here s1 a s2 m b) q n f h = absurd f
+  keep (entered_halted w p s k t i inner left g here s1 a) q n f h = absurd f
+  keep (entered_exiting w p s k t i inner left told v m e g here s1 a s2 b) q n f h = absurd f
   keep (born w p s k o b u v e g t a) q n f h = absurd f
   keep (fallen w p s k u v e g t a) q n f h = absurd f
+  keep (unfound w p s k t i u v e g here b a) q n f h = absurd f
 
 module _ {O I : Type 0} where
   pub untouched : Untouched O I
   untouched prog c w v t i r a f =
       let n : strip c (c ++ t) ≡ Some t = strip_own c t in
       let k : Kept c w v =
-      step c w (c ++ t) t (In None i) a.entered v n a.entry f (λ j. run c a.entered a.left v (keep c prog (runs_derived prog a.entered (c ++ t) (entering prog (w.tree (c ++ t)) i) a.left (Some r) a.run) t n (entering_calls prog (w.tree (c ++ t)) i) j)
+      step c w (c ++ t) t (In None i) a.entered v n a.entry f (λ j. run c a.entered a.left v (keep c prog (runs_derived prog a.entered (c ++ t) (prog.entry i) a.left (Some r) a.run) t n (prog.entries_call i) j)
       (λ l. step c a.left (c ++ t) t (Done None r) v v n a.leaving l (λ m. (refl, m)))) in
       k.0

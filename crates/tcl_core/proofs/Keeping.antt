@@ -5,22 +5,23 @@ use Rattle.tcl_core.specs.Endings.{Meter}
 use Rattle.tcl_core.specs.Endings.Meter.{Count, Depth}
 use Rattle.tcl_core.specs.Endings.Reply.{Completed, Exit, Cut}
 use Rattle.tcl_core.specs.Endings.Cause.{Above, Over}
-use Rattle.tcl_core.specs.Entries.Answer.{Replied, Heard}
+use Rattle.tcl_core.specs.Entries.Answer.{Replied, Heard, Nobody}
 use Rattle.tcl_core.specs.Trees.{Grants, Tree, Node, What, Move}
 use Rattle.tcl_core.specs.Trees.Grant.{Allow, Deny}
 use Rattle.tcl_core.specs.Trees.Grants.{Listed, Budget}
 use Rattle.tcl_core.specs.Trees.Move.{Born, Fall, Enter, Come}
-use Rattle.tcl_core.specs.Trees.What.{Seen, Charged, Refused, Nested, Limited, DepthLimited, Made, Dropped, Out, In, Done, Back}
-use Rattle.tcl_core.specs.Programs.{Act, Wrap, Deed, Wait, Prog, Table, spot, decide, opens, closes, changing, making, dropping, dropping_at, metered, by_limit, blocked, is_spent, is_deep}
+use Rattle.tcl_core.specs.Trees.What.{Seen, Charged, Refused, Nested, Limited, DepthLimited, Made, Dropped, Out, In, Done, Back, Unfound}
+use Rattle.tcl_core.specs.Programs.{Act, Wrap, Deed, Wait, Prog, Table, spot, decide, opens, closes, changing, making, dropping, metered, by_limit, blocked, is_spent, is_deep}
 use Rattle.tcl_core.specs.Programs.Next.{On, Off}
 use Rattle.tcl_core.specs.Programs.Act.{Look, Change, Charge, Limit, LimitDepth, Make, Drop}
 use Rattle.tcl_core.specs.Programs.Wrap.{Deeper, Framed}
 use Rattle.tcl_core.specs.Runs.{World, Step, Ending, Exits, Exiting, Halts, Runs, ends_call, height_of}
 use Rattle.tcl_core.specs.Rules.{Derives}
-use Rattle.tcl_core.specs.Rules.Derives.{completed, exited, acted, refused, unheard, went, passed, halted, wrapped, wrapped_passed, wrapped_halted, too_deep, shut, unheard_inside, called, called_passed, called_halted, unreached, called_out, unanswered, unfit, answered, heard, answered_passed, entered, entered_halted, entered_exiting, born, fallen}
+use Rattle.tcl_core.specs.Rules.Derives.{completed, exited, acted, refused, unheard, went, passed, halted, wrapped, wrapped_passed, wrapped_halted, too_deep, shut, unheard_inside, called, called_passed, called_halted, unreached, called_out, unanswered, unfit, answered, heard, missed, answered_passed, entered, entered_halted, entered_exiting, born, fallen, unfound}
 use Rattle.tcl_core.specs.Views.{IsFree, IsDue}
 use Rattle.tcl_core.proofs.PathLaws.{not_both, Some-inj}
 use Rattle.tcl_core.proofs.RuleLaws.{runs_derived}
+use Rattle.tcl_core.proofs.TreeLaws.{any_close}
 
 module _ {O : Type 0} where
   due_of : (T : Tree O) (p : Place) (y x : Deed O) → IsDue T (spot p y.0) y.1 → Some y ≡ Some x → IsDue T (spot p x.0) x.1
@@ -50,11 +51,7 @@ module _ {O : Type 0} where
 
   dropping_due : (T : Tree O) (p : Place) (name : List ℕ) (n : Option (Node O)) → IsDue T (spot p (dropping name n).0) (dropping name n).1
   dropping_due T p name None = tt
-  dropping_due T p name (Some n) = go n.depth
-    where
-      go : (d : ℕ) → IsDue T (spot p (dropping_at {O = O} name d).0) (dropping_at name d).1
-      go zero = tt
-      go (suc d) = tt
+  dropping_due T p name (Some n) = tt
 
   -- an act is done only where it is due
   pub decide_due : (d : Act O) (T : Tree O) (p : Place) (gs : Grants) (x : Deed O) → decide d T p gs ≡ Some x → IsDue T (spot p x.0) x.1
@@ -70,10 +67,8 @@ module _ {O : Type 0} where
   opens_due Deeper T p gs x e = metered_due is_deep T p Depth Nested gs x (λ e. e) (blocked is_deep T p) refl e
   opens_due (Framed o back) T p gs x e = due_of T p (changing o (T p)) x (changing_due T p o (T p)) e
 
-  closes_due : (b : Wrap O) (T : Tree O) (p : Place) (n : Option (Node O)) → IsDue T p (closes b n)
-  closes_due Deeper T p n = tt
-  closes_due (Framed o back) T p None = tt
-  closes_due (Framed o back) T p (Some n) = tt
+  pub closes_due : (b : Wrap O) (T : Tree O) (p : Place) (m n : Option (Node O)) → IsDue T p (closes b m n)
+  closes_due b T p m n = any_close (IsDue T p) b m n tt tt (λ o. tt)
 
   -- ANY INVARIANT: what each happening keeps, each run keeps
   abbrev pub KeepsSteps : (World O → Type 0) → Type 0
@@ -107,9 +102,9 @@ module _ {O I : Type 0} (P : World O → Type 0) (t : KeepsSteps P) (prog : Tabl
   derived_keep (passed w p i k u r q a) b = derived_keep a b
   derived_keep (halted w p i k u a) b = derived_keep a b
   derived_keep (wrapped w p l i k x inner left closed v c e g on s a z d) b =
-      derived_keep d (t left p (closes l (left.tree p)) closed (closes_due l left.tree p (left.tree p)) z (derived_keep a (t w (spot p x.0) x.1 inner (opens_due l w.tree p w.grants x g) s b)))
+      derived_keep d (t left p (closes l (inner.tree p) (left.tree p)) closed (closes_due l left.tree p (inner.tree p) (left.tree p)) z (derived_keep a (t w (spot p x.0) x.1 inner (opens_due l w.tree p w.grants x g) s b)))
   derived_keep (wrapped_passed w p l i k x inner left closed r q g on s a z) b =
-      t left p (closes l (left.tree p)) closed (closes_due l left.tree p (left.tree p)) z (derived_keep a (t w (spot p x.0) x.1 inner (opens_due l w.tree p w.grants x g) s b))
+      t left p (closes l (inner.tree p) (left.tree p)) closed (closes_due l left.tree p (inner.tree p) (left.tree p)) z (derived_keep a (t w (spot p x.0) x.1 inner (opens_due l w.tree p w.grants x g) s b))
   derived_keep (wrapped_halted w p l i k x inner left g on s a) b = derived_keep a (t w (spot p x.0) x.1 inner (opens_due l w.tree p w.grants x g) s b)
   derived_keep (too_deep w p l i k x u v e g deep s a) b = derived_keep a (t w (spot p x.0) x.1 u (opens_due l w.tree p w.grants x g) s b)
   derived_keep (shut w p l i k x r u g off s) b = t w (spot p x.0) x.1 u (opens_due l w.tree p w.grants x g) s b
@@ -125,14 +120,16 @@ module _ {O I : Type 0} (P : World O → Type 0) (t : KeepsSteps P) (prog : Tabl
   derived_keep (unfit w p s k m ms f g h z) b = b
   derived_keep (answered w p s k c u v e f g z a) b = derived_keep a (t w p (Back (height_of s) (Replied (Completed c))) u tt z b)
   derived_keep (heard w p s k y u v e f g z a) b = derived_keep a (t w p (Back (height_of s) (Heard y)) u tt z b)
+  derived_keep (missed w p s k u v e f g z a) b = derived_keep a (t w p (Back (height_of s) Nobody) u tt z b)
   derived_keep (answered_passed w p s k r u q f g z) b = t w p (Back (height_of s) (Replied r)) u tt z b
-  derived_keep (entered w p s k y i inner left told v r e f s1 a s2 n d) b =
+  derived_keep (entered w p s k y i inner left told v r e f here s1 a s2 n d) b =
       derived_keep d (t left y (Done None r) told tt s2 (derived_keep a (t w y (In None i) inner tt s1 b)))
-  derived_keep (entered_halted w p s k y i inner left f s1 a) b = derived_keep a (t w y (In None i) inner tt s1 b)
-  derived_keep (entered_exiting w p s k y i inner left told v n e f s1 a s2 d) b =
+  derived_keep (entered_halted w p s k y i inner left f here s1 a) b = derived_keep a (t w y (In None i) inner tt s1 b)
+  derived_keep (entered_exiting w p s k y i inner left told v n e f here s1 a s2 d) b =
       exits_keep P t told p s n told.moves v e d (t left y (Done None (Exit n)) told tt s2 (derived_keep a (t w y (In None i) inner tt s1 b)))
   derived_keep (born w p s k o l u v e f z a) b = derived_keep a (t w [] (Made o l) u tt z b)
   derived_keep (fallen w p s k u v e f z a) b = derived_keep a (t w [] Dropped u tt z b)
+  derived_keep (unfound w p s k y i u v e f here z a) b = derived_keep a (t w [] (Unfound y i (prog.lost y)) u tt z b)
 
   pub runs_keep : (w : World O) (p : Place) (x : Prog O I) (v : World O) (e : Ending) → Runs prog w p x v e → P w → P v
   runs_keep w p x v e a b = derived_keep (runs_derived prog w p x v e a) b

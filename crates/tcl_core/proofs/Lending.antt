@@ -5,19 +5,19 @@ use Rattle.tcl_core.specs.Endings.{Meter, Completion, Reply, Cause, refusal}
 use Rattle.tcl_core.specs.Endings.Meter.{Count, Depth}
 use Rattle.tcl_core.specs.Endings.Reply.{Completed, Stop, Exit, Cut}
 use Rattle.tcl_core.specs.Entries.{Entry, Answer, Said}
-use Rattle.tcl_core.specs.Entries.Answer.{Replied, Heard}
-use Rattle.tcl_core.specs.Entries.Said.{Finished, Told}
-use Rattle.tcl_core.specs.Trees.{Tree, What, Event, Move, Grants, granted, allowing, denied, at, asked}
+use Rattle.tcl_core.specs.Entries.Answer.{Replied, Heard, Nobody}
+use Rattle.tcl_core.specs.Entries.Said.{Finished, Told, Missed}
+use Rattle.tcl_core.specs.Trees.{Tree, What, Event, Move, Grants, granted, allowing, denied, at, asked, depth_of, Node}
 use Rattle.tcl_core.specs.Trees.Grants.{Listed, Budget}
 use Rattle.tcl_core.specs.Programs.Act.{Look, Change, Charge, Limit, LimitDepth, Make, Drop}
 use Rattle.tcl_core.specs.Programs.Wrap.{Deeper, Framed}
 use Rattle.tcl_core.proofs.PathLaws.{not_both}
-use Rattle.tcl_core.specs.Trees.What.{Charged, Nested, Refused, Made, Dropped, Out, In, Done, Back}
+use Rattle.tcl_core.specs.Trees.What.{Charged, Nested, Refused, Made, Dropped, Out, In, Done, Back, Unfound}
 use Rattle.tcl_core.specs.Trees.Move.{Born, Fall, Enter, Come}
-use Rattle.tcl_core.specs.Programs.{Act, Deed, spot, Wrap, Wait, Next, Prog, Table, decide, opens, closes, metered, blocked, is_spent, is_deep}
+use Rattle.tcl_core.specs.Programs.{Act, Deed, spot, Wrap, Wait, Next, Prog, Table, decide, opens, closes, metered, blocked, is_spent, is_deep, or_lost}
 use Rattle.tcl_core.specs.Programs.Next.{On, TooDeep, Off}
 use Rattle.tcl_core.specs.Programs.Prog.{done, exit, act, go, inside, call, wait}
-use Rattle.tcl_core.specs.Runs.{World, Step, Ending, Run, Halts, Follows, Then, Closes, Acted, Acts, Opened, Opens, Hears, Answered, Leaves, Visits, Returns, Reaches, Calls, Exiting, Exits, Stays, Moves, Fitting, Waits, Unrolled, RunsIn, Runs, carried, reached, entering, fits, ends_call, height_of}
+use Rattle.tcl_core.specs.Runs.{World, Step, Ending, Run, Halts, Follows, Then, Closes, Acted, Acts, Opened, Opens, Hears, Answered, Leaves, Visits, Returns, Reaches, Calls, Exiting, Exits, Stays, Moves, Fitting, Waits, Unrolled, RunsIn, Runs, carried, reached, fits, ends_call, height_of, gone, Enters}
 use Rattle.tcl_core.specs.Views.{moves_of, steps_of}
 use Rattle.tcl_core.proofs.Folding.{unroll}
 use Rattle.tcl_core.specs.Laws.{AtMove}
@@ -27,6 +27,7 @@ use Rattle.tcl_core.proofs.Parting.{Silent, act_silent, opens_silent, closes_sil
 use Rattle.tcl_core.proofs.Budgets.{budgeted, step_budget, decide_budget, opens_budget}
 use Rattle.tcl_core.proofs.Unended.{IsNoCut, decide_uncut, opens_uncut}
 use Rattle.tcl_core.proofs.Refusals.{IsRefusal, cut_or, decide_refused, opens_refused}
+use Rattle.tcl_core.specs.Endings.Kind.{Full}
 
 -- words of the outside, and no budget
 abbrev pub IsListed : Grants → Type 0
@@ -251,14 +252,15 @@ module _ {O : Type 0} (k : ℕ) (b0 y0 : List (Move O)) where
       then_meet w a0 τ m0 p k None v e y o a b = both_end w a0 τ m0 v e y o None a.0 a.1 b.0 b.1
       then_meet w a0 τ m0 p k (Some r) v e y o a b = follows_meet w a0 τ m0 p k r v e y o a b
 
-      closes_meet : (w : World O) (a0 : List (Move O)) (τ : List (Event O)) (m0 : Has w a0) (p : Place) (l : Wrap O) (k : Completion → Prog O I) (m : Ending) (v : World O) (e : Ending) (y : World O) (o : Ending) → Closes R w p l k m v e → Closes S (lent w a0 τ) p l k m y o → Alike w a0 τ v e y o
-      closes_meet w a0 τ m0 p l k None v e y o a b = both_end w a0 τ m0 v e y o None a.0 a.1 b.0 b.1
-      closes_meet w a0 τ m0 p l k (Some r) v e y o (u, s, a) (z, t, b) =
-          let q : a0 ≡ asked p (closes l (w.tree p)) a0 = sym (closes_silent p l (w.tree p) a0) in
-          after_step w a0 τ p (closes l (w.tree p)) u z a0 q s t v e y o (follows_meet u a0 z.tape (left_step w a0 p (closes l (w.tree p)) u a0 q s m0) p k r v e y o a (subst (λ m. Follows S m p k r y o) (lent_step w a0 τ p (closes l (w.tree p)) u z a0 q s t) b))
+      closes_meet : (g : Option (Node O)) (w : World O) (a0 : List (Move O)) (τ : List (Event O)) (m0 : Has w a0) (p : Place) (l : Wrap O) (k : Completion → Prog O I) (m : Ending) (v : World O) (e : Ending) (y : World O) (o : Ending) → Closes R g w p l k m v e → Closes S g (lent w a0 τ) p l k m y o → Alike w a0 τ v e y o
+      closes_meet g w a0 τ m0 p l k None v e y o a b = both_end w a0 τ m0 v e y o None a.0 a.1 b.0 b.1
+      closes_meet g w a0 τ m0 p l k (Some r) v e y o (u, s, a) (z, t, b) =
+          let q : a0 ≡ asked p (closes l g (w.tree p)) a0 = sym (closes_silent p l g (w.tree p) a0) in
+          after_step w a0 τ p (closes l g (w.tree p)) u z a0 q s t v e y o (follows_meet u a0 z.tape (left_step w a0 p (closes l g (w.tree p)) u a0 q s m0) p k r v e y o a (subst (λ m. Follows S m p k r y o) (lent_step w a0 τ p (closes l g (w.tree p)) u z a0 q s t) b))
 
       hears_meet : (w : World O) (a0 : List (Move O)) (τ : List (Event O)) (m0 : Has w a0) (p : Place) (k : Said → Prog O I) (a : Answer) (v : World O) (e : Ending) (y : World O) (o : Ending) → Hears R w p k a v e → Hears S (lent w a0 τ) p k a y o → Alike w a0 τ v e y o
       hears_meet w a0 τ m0 p k (Heard x) v e y o a b = det w a0 τ m0 p (k (Told x)) v e y o a b
+      hears_meet w a0 τ m0 p k Nobody v e y o a b = det w a0 τ m0 p (k Missed) v e y o a b
       hears_meet w a0 τ m0 p k (Replied (Completed c)) v e y o a b = det w a0 τ m0 p (k (Finished c)) v e y o a b
       hears_meet w a0 τ m0 p k (Replied (Stop n m)) v e y o a b = both_end w a0 τ m0 v e y o (Some (Stop n m)) a.0 a.1 b.0 b.1
       hears_meet w a0 τ m0 p k (Replied (Exit n)) v e y o a b = both_end w a0 τ m0 v e y o (Some (Exit n)) a.0 a.1 b.0 b.1
@@ -268,9 +270,9 @@ module _ {O : Type 0} (k : ℕ) (b0 y0 : List (Move O)) where
       answered_meet w a0 τ m0 p h f a a1 q v e y o (u, s, b) (z, t, c) =
           after_step w a0 τ p (Back h a) u z a1 q s t v e y o (hears_meet u a1 z.tape (left_step w a0 p (Back h a) u a1 q s m0) p f a v e y o b (subst (λ m. Hears S m p f a y o) (lent_step w a0 τ p (Back h a) u z a1 q s t) c))
 
-      returns_meet : (w : World O) (a0 : List (Move O)) (τ : List (Event O)) (m0 : Has w a0) (p : Place) (h : Height) (down : Path) (f : Said → Prog O I) (c : Place) → rise_to h p ≡ Some c → (m : Ending) (v : World O) (e : Ending) (y : World O) (o : Ending) → Returns R w p h down f m v e → Returns S (lent w a0 τ) p h down f m y o → Alike w a0 τ v e y o
-      returns_meet w a0 τ m0 p h down f c g None v e y o a b = both_end w a0 τ m0 v e y o None a.0 a.1 b.0 b.1
-      returns_meet w a0 τ m0 p h down f c g (Some r) v e y o a b = answered_meet w a0 τ m0 p h f (Replied (carried h p down r)) a0 (sym (back_silent prog p c h (Replied (carried h p down r)) g a0)) v e y o a b
+      returns_meet : (d : ℕ) (w : World O) (a0 : List (Move O)) (τ : List (Event O)) (m0 : Has w a0) (p : Place) (h : Height) (down : Path) (f : Said → Prog O I) (c : Place) → rise_to h p ≡ Some c → (m : Ending) (v : World O) (e : Ending) (y : World O) (o : Ending) → Returns R d w p h down f m v e → Returns S d (lent w a0 τ) p h down f m y o → Alike w a0 τ v e y o
+      returns_meet d w a0 τ m0 p h down f c g None v e y o a b = both_end w a0 τ m0 v e y o None a.0 a.1 b.0 b.1
+      returns_meet d w a0 τ m0 p h down f c g (Some r) v e y o a b = answered_meet w a0 τ m0 p h f (Replied (carried (gone d w.tree p) h p down r)) a0 (sym (back_silent prog p c h (Replied (carried (gone d w.tree p) h p down r)) g a0)) v e y o a b
 
       leaves_meet : (w : World O) (a0 : List (Move O)) (τ : List (Event O)) (m0 : Has w a0) (g : Height) (t : Place) (m : Ending) (v y : World O) → Leaves w g t m v → Leaves (lent w a0 τ) g t m y → Alike w a0 τ v m y m
       leaves_meet w a0 τ m0 g t None v y a b = at_once w a0 τ m0 v None y None a b refl
@@ -278,7 +280,7 @@ module _ {O : Type 0} (k : ℕ) (b0 y0 : List (Move O)) where
 
       visits_meet : (w : World O) (a0 : List (Move O)) (τ : List (Event O)) (m0 : Has w a0) (g : Height) (t : Place) (i : Entry) (a1 : List (Move O)) → a0 ≡ asked t (In g i) a1 → (v : World O) (e : Ending) (y : World O) (o : Ending) → Visits prog R w g t i v e → Visits prog S (lent w a0 τ) g t i y o → Alike w a0 τ v e y o
       visits_meet w a0 τ m0 g t i a1 q v e y o a b =
-          let inner : Alike w a0 τ a.left e b.left o = step_goes_on w a0 τ m0 t t (In g i) a1 q a.entered b.entered (entering prog (w.tree t) i) a.left e b.left o a.entry b.entry a.run b.run in
+          let inner : Alike w a0 τ a.left e b.left o = step_goes_on w a0 τ m0 t t (In g i) a1 q a.entered b.entered (prog.entry i) a.left e b.left o a.entry b.entry a.run b.run in
           after_run w a0 τ a.left e b.left o inner v e y o (λ n.
           let out : Leaves (lent a.left n.left n.rest) g t e y = subst (λ l. Leaves (lent a.left n.left n.rest) g t l y) n.ending (subst (λ l. Leaves l g t o y) n.world b.leaving) in
           subst (λ l. Alike a.left n.left n.rest v e y l) (sym n.ending) (leaves_meet a.left n.left n.rest n.moves g t e v y a.leaving out))
@@ -287,11 +289,11 @@ module _ {O : Type 0} (k : ℕ) (b0 y0 : List (Move O)) where
       reaches_meet w a0 τ m0 p h down i lost f c g None j v e y o a b = answered_meet w a0 τ m0 p h f (Replied (Completed lost)) a0 (sym (back_silent prog p c h (Replied (Completed lost)) g a0)) v e y o a b
       reaches_meet w a0 τ m0 p h down i lost f c g (Some t) j v e y o (u, m, a, a2) (z, n, b, b2) =
           let vis : Alike w a0 τ u m z n = visits_meet w a0 τ m0 (Some (length down)) t i a0 (in_silent prog w c t down i j a0) u m z n a b in
-          after_run w a0 τ u m z n vis v e y o (λ d. returns_meet u d.left d.rest d.moves p h down f c g m v e y o a2
-          (subst (λ l. Returns S (lent u d.left d.rest) p h down f l y o) d.ending (subst (λ l. Returns S l p h down f n y o) d.world b2)))
+          after_run w a0 τ u m z n vis v e y o (λ d. returns_meet (depth_of (w.tree p)) u d.left d.rest d.moves p h down f c g m v e y o a2
+          (subst (λ l. Returns S (depth_of (w.tree p)) (lent u d.left d.rest) p h down f l y o) d.ending (subst (λ l. Returns S (depth_of (w.tree p)) l p h down f n y o) d.world b2)))
 
       calls_meet : (w : World O) (a0 : List (Move O)) (τ : List (Event O)) (m0 : Has w a0) (p : Place) (h : Height) (down : Path) (i : Entry) (lost : Completion) (f : Said → Prog O I) (a : Option Place) → rise_to h p ≡ a → (v : World O) (e : Ending) (y : World O) (o : Ending) → Calls prog R w p h down i lost f a v e → Calls prog S (lent w a0 τ) p h down i lost f a y o → Alike w a0 τ v e y o
-      calls_meet w a0 τ m0 p h down i lost f None g v e y o a b = det w a0 τ m0 p (wait (Some (h, i)) f) v e y o a b
+      calls_meet w a0 τ m0 p h down i lost f None g v e y o a b = det w a0 τ m0 p (wait (Some (h, i, depth_of (w.tree p))) (or_lost lost f)) v e y o a b
       calls_meet w a0 τ m0 p h down i lost f (Some t) g v e y o a b = reaches_meet w a0 τ m0 p h down i lost f t g (reached w.tree t down) refl v e y o a b
 
       -- what comes next where a move is waited for
@@ -312,11 +314,15 @@ module _ {O : Type 0} (k : ℕ) (b0 y0 : List (Move O)) where
           by (Fall ∷ ms) x = halt x
           by (Enter u i ∷ ms) x = halt x
 
+      enters_at : (Q : Run O I) (w : World O) (p : Place) (s : Wait) (f : Said → Prog O I) (t : Path) (i : Entry) (n : Option (Node O)) (v : World O) (e : Ending) → Enters prog Q w p s f t i n v e → AtMove w.tape
+      enters_at Q w p s f t i None v e (u, a, b) = reads_at w u [] (Unfound t i (prog.lost t)) a (λ ms. (Enter t i, refl))
+      enters_at Q w p s f t i (Some n) v e (u, m, a, b) = reads_at w a.entered t (In None i) a.entry (λ ms. (Enter t i, refl))
+
       moves_at : (Q : Run O I) (w : World O) (p : Place) (s : Wait) (f : Said → Prog O I) (m : Move O) (v : World O) (e : Ending) → rise_to (height_of s) p ≡ None → Moves prog Q w p s f m v e → AtMove w.tape
       moves_at Q w p s f (Come a) v e g (u, t, b) = reads_at w u p (Back (height_of s) a) t (λ ms. (Come a, sym (back_reads prog p (height_of s) a g ms)))
       moves_at Q w p s f (Born x l) v e g (u, t, b) = reads_at w u [] (Made x l) t (λ ms. (Born x l, refl))
       moves_at Q w p s f Fall v e g (u, t, b) = reads_at w u [] Dropped t (λ ms. (Fall, refl))
-      moves_at Q w p s f (Enter t i) v e g (u, m, a, b) = reads_at w a.entered t (In None i) a.entry (λ ms. (Enter t i, refl))
+      moves_at Q w p s f (Enter t i) v e g a = enters_at Q w p s f t i (w.tree t) v e a
 
       fitting_at : (Q : Run O I) (w : World O) (p : Place) (s : Wait) (f : Said → Prog O I) (l : Bool) (m : Move O) (v : World O) (e : Ending) → rise_to (height_of s) p ≡ None → Fitting prog Q w p s f l m v e → AtMove w.tape
       fitting_at Q w p s f false m v e g a = subst AtMove (sym a.tape) tt
@@ -324,7 +330,7 @@ module _ {O : Type 0} (k : ℕ) (b0 y0 : List (Move O)) where
 
       waits_at : (Q : Run O I) (w : World O) (p : Place) (s : Wait) (f : Said → Prog O I) (ms : List (Move O)) (v : World O) (e : Ending) → rise_to (height_of s) p ≡ None → Waits prog Q w p s f ms v e → AtMove w.tape
       waits_at Q w p s f [] v e g a = subst AtMove (sym a.tape) tt
-      waits_at Q w p s f (m ∷ ms) v e g a = fitting_at Q w p s f (fits s m) m v e g a
+      waits_at Q w p s f (m ∷ ms) v e g a = fitting_at Q w p s f (fits w.tree p s m) m v e g a
 
       exits_meet : (w : World O) (a0 : List (Move O)) (τ : List (Event O)) (m0 : Has w a0) (p : Place) (s : Wait) (n : ℤ) → rise_to (height_of s) p ≡ None → (v : World O) (e : Ending) (y : World O) (o : Ending) → Exits w p s n w.moves v e → Exits (lent w a0 τ) p s n (a0 ++ y0) y o → Alike w a0 τ v e y o
       exits_meet w [] τ m0 p s n f v e y o a b = used_up w τ v e y o (exits_at w p s n w.moves v e f a) (exits_at (lent w [] τ) p s n y0 y o f b)
@@ -347,14 +353,18 @@ module _ {O : Type 0} (k : ℕ) (b0 y0 : List (Move O)) where
       stays_meet w a0 τ m0 p s f g (Some (Stop n m)) v e y o a b = det w a0 τ m0 p (wait s f) v e y o a b
       stays_meet w a0 τ m0 p s f g (Some (Cut c)) v e y o a b = det w a0 τ m0 p (wait s f) v e y o a b
 
+      enters_meet : (w : World O) (a0 : List (Move O)) (τ : List (Event O)) (m0 : Has w a0) (p : Place) (s : Wait) (f : Said → Prog O I) → rise_to (height_of s) p ≡ None → (t : Path) (i : Entry) (x : Option (Node O)) (a1 : List (Move O)) → a0 ≡ Enter t i ∷ a1 → (v : World O) (e : Ending) (y : World O) (o : Ending) → Enters prog R w p s f t i x v e → Enters prog S (lent w a0 τ) p s f t i x y o → Alike w a0 τ v e y o
+      enters_meet w a0 τ m0 p s f g t i None a1 q v e y o (u, t2, a) (z, t3, b) = step_goes_on w a0 τ m0 p [] (Unfound t i (prog.lost t)) a1 q u z (wait s f) v e y o t2 t3 a b
+      enters_meet w a0 τ m0 p s f g t i (Some x) a1 q v e y o (u, m, a, a2) (z, n, b, b2) =
+          let vis : Alike w a0 τ u m z n = visits_meet w a0 τ m0 None t i a1 q u m z n a b in
+          after_run w a0 τ u m z n vis v e y o (λ d. stays_meet u d.left d.rest d.moves p s f g m v e y o a2
+          (subst (λ l. Stays S (lent u d.left d.rest) p s f l y o) d.ending (subst (λ l. Stays S l p s f n y o) d.world b2)))
+
       moves_meet : (w : World O) (a0 : List (Move O)) (τ : List (Event O)) (m0 : Has w a0) (p : Place) (s : Wait) (f : Said → Prog O I) → rise_to (height_of s) p ≡ None → (m : Move O) (a1 : List (Move O)) → a0 ≡ m ∷ a1 → (v : World O) (e : Ending) (y : World O) (o : Ending) → Moves prog R w p s f m v e → Moves prog S (lent w a0 τ) p s f m y o → Alike w a0 τ v e y o
       moves_meet w a0 τ m0 p s f g (Come a) a1 q v e y o b c = answered_meet w a0 τ m0 p (height_of s) f a a1 (q ∙ back_reads prog p (height_of s) a g a1) v e y o b c
       moves_meet w a0 τ m0 p s f g (Born x l) a1 q v e y o (u, t, a) (z, t2, b) = step_goes_on w a0 τ m0 p [] (Made x l) a1 q u z (wait s f) v e y o t t2 a b
       moves_meet w a0 τ m0 p s f g Fall a1 q v e y o (u, t, a) (z, t2, b) = step_goes_on w a0 τ m0 p [] Dropped a1 q u z (wait s f) v e y o t t2 a b
-      moves_meet w a0 τ m0 p s f g (Enter t i) a1 q v e y o (u, m, a, a2) (z, n, b, b2) =
-          let vis : Alike w a0 τ u m z n = visits_meet w a0 τ m0 None t i a1 q u m z n a b in
-          after_run w a0 τ u m z n vis v e y o (λ d. stays_meet u d.left d.rest d.moves p s f g m v e y o a2
-          (subst (λ l. Stays S (lent u d.left d.rest) p s f l y o) d.ending (subst (λ l. Stays S l p s f n y o) d.world b2)))
+      moves_meet w a0 τ m0 p s f g (Enter t i) a1 q v e y o a b = enters_meet w a0 τ m0 p s f g t i (w.tree t) a1 q v e y o a b
 
       fitting_meet : (w : World O) (a0 : List (Move O)) (τ : List (Event O)) (m0 : Has w a0) (p : Place) (s : Wait) (f : Said → Prog O I) → rise_to (height_of s) p ≡ None → (l : Bool) (m : Move O) (a1 : List (Move O)) → a0 ≡ m ∷ a1 → (v : World O) (e : Ending) (y : World O) (o : Ending) → Fitting prog R w p s f l m v e → Fitting prog S (lent w a0 τ) p s f l m y o → Alike w a0 τ v e y o
       fitting_meet w a0 τ m0 p s f g false m a1 q v e y o a b = both_halt w a0 τ m0 v e y o a b
@@ -362,7 +372,7 @@ module _ {O : Type 0} (k : ℕ) (b0 y0 : List (Move O)) where
 
       waits_meet : (w : World O) (a0 : List (Move O)) (τ : List (Event O)) (m0 : Has w a0) (p : Place) (s : Wait) (f : Said → Prog O I) → rise_to (height_of s) p ≡ None → (v : World O) (e : Ending) (y : World O) (o : Ending) → Waits prog R w p s f w.moves v e → Waits prog S (lent w a0 τ) p s f (a0 ++ y0) y o → Alike w a0 τ v e y o
       waits_meet w [] τ m0 p s f g v e y o a b = used_up w τ v e y o (waits_at R w p s f w.moves v e g a) (waits_at S (lent w [] τ) p s f y0 y o g b)
-      waits_meet w (m ∷ a1) τ m0 p s f g v e y o a b = fitting_meet w (m ∷ a1) τ m0 p s f g (fits s m) m a1 refl v e y o (subst (λ l. Waits prog R w p s f l v e) m0 a) b
+      waits_meet w (m ∷ a1) τ m0 p s f g v e y o a b = fitting_meet w (m ∷ a1) τ m0 p s f g (fits w.tree p s m) m a1 refl v e y o (subst (λ l. Waits prog R w p s f l v e) m0 a) b
 
       acted_meet : (w u : World O) (a0 : List (Move O)) (τ : List (Event O)) (m0 : Has u a0) (p : Place) (f : Tree O → Prog O I) (x : Next) (v : World O) (e : Ending) (y : World O) (o : Ending) → Acted R w u p f x v e → Acted S w (lent u a0 τ) p f x y o → Alike u a0 τ v e y o
       acted_meet w u a0 τ m0 p f (Off r) v e y o a b = both_end u a0 τ m0 v e y o (Some r) a.0 a.1 b.0 b.1
@@ -381,10 +391,10 @@ module _ {O : Type 0} (k : ℕ) (b0 y0 : List (Move O)) where
 
       opened_meet : (w : World O) (a0 : List (Move O)) (τ : List (Event O)) (m0 : Has w a0) (p : Place) (l : Wrap O) (i : I) (f : Completion → Prog O I) (x : Next) (v : World O) (e : Ending) (y : World O) (o : Ending) → Opened prog R w p l i f x v e → Opened prog S (lent w a0 τ) p l i f x y o → Alike w a0 τ v e y o
       opened_meet w a0 τ m0 p l i f (Off r) v e y o a b = both_end w a0 τ m0 v e y o (Some r) a.0 a.1 b.0 b.1
-      opened_meet w a0 τ m0 p l i f TooDeep v e y o a b = det w a0 τ m0 p (f (refusal Depth)) v e y o a b
+      opened_meet w a0 τ m0 p l i f TooDeep v e y o a b = det w a0 τ m0 p (f (refusal (Full Depth))) v e y o a b
       opened_meet w a0 τ m0 p l i f On v e y o (u, m, a, a2) (z, n, b, b2) =
           let r : Alike w a0 τ u m z n = det w a0 τ m0 p (prog.program i) u m z n a b in
-          after_run w a0 τ u m z n r v e y o (λ g. closes_meet u g.left g.rest g.moves p l f m v e y o a2 (subst (λ j. Closes S (lent u g.left g.rest) p l f j y o) g.ending (subst (λ j. Closes S j p l f n y o) g.world b2)))
+          after_run w a0 τ u m z n r v e y o (λ g. closes_meet (w.tree p) u g.left g.rest g.moves p l f m v e y o a2 (subst (λ j. Closes S (w.tree p) (lent u g.left g.rest) p l f j y o) g.ending (subst (λ j. Closes S (w.tree p) j p l f n y o) g.world b2)))
 
       opens_meet : (w : World O) (a0 : List (Move O)) (τ : List (Event O)) (m0 : Has w a0) (p : Place) (x : Deed O) → Silent (spot p x.0) x.1 → (l : Wrap O) (i : I) (f : Completion → Prog O I) (v : World O) (e : Ending) (y : World O) (o : Ending) → Opens prog R w p (Some x) l i f v e → Opens prog S (lent w a0 τ) p (Some x) l i f y o → Alike w a0 τ v e y o
       opens_meet w a0 τ m0 p x sil l i f v e y o (u, s, a) (z, t, b) =

@@ -34,3 +34,7 @@ pub mod Beginnings
 pub mod Inward
 pub mod LifeMoves
 pub mod Reactions
+pub mod WorkedDeletion
+pub mod UpToDrop
+pub mod Dropped
+pub mod GoneOnes

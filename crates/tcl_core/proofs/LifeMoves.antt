@@ -8,7 +8,7 @@ use Rattle.tcl_core.specs.Entries.{Entry, Answer}
 use Rattle.tcl_core.specs.Entries.Answer.{Replied}
 use Rattle.tcl_core.specs.Trees.{Tree, What, Event, Move, at_top, asked, where_none}
 use Rattle.tcl_core.specs.Trees.Grants.{Budget}
-use Rattle.tcl_core.specs.Trees.What.{Made, Dropped, In, Back, Done}
+use Rattle.tcl_core.specs.Trees.What.{Made, Dropped, In, Back, Done, Unfound}
 use Rattle.tcl_core.specs.Trees.Move.{Born, Fall, Enter, Come}
 use Rattle.tcl_core.specs.Programs.{Prog, Table}
 use Rattle.tcl_core.specs.Programs.Prog.{wait}
@@ -95,6 +95,7 @@ module _ {O : Type 0} where
       bad : Born o s ≡ Come (Replied (Cut c)) → Prim.⊥
       bad f = cc
   reads_cut p Dropped c l e u = not_fall (Replied (Cut c)) Fall refl (top_same p Fall (Come (Replied (Cut c))) l e)
+  reads_cut p (Unfound t i y) c l e u = let g : Enter t i ≡ Come (Replied (Cut c)) = cc in not_enter t i (Replied (Cut c)) (Enter t i) refl g
   reads_cut p x c l e u = itself (Come (Replied (Cut c))) l e
 
   unended_at : (p : Place) (x : What O) → Uncut p x → Unended p x

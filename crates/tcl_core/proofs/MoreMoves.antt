@@ -15,7 +15,7 @@ use Rattle.tcl_core.specs.Programs.Act.{Charge}
 use Rattle.tcl_core.specs.Programs.Wrap.{Deeper, Framed}
 use Rattle.tcl_core.specs.Runs.{World, Step, Ending, Halts, Exits, Exiting, ends_call, height_of}
 use Rattle.tcl_core.specs.Rules.{Derives}
-use Rattle.tcl_core.specs.Rules.Derives.{completed, exited, acted, refused, unheard, went, passed, halted, wrapped, wrapped_passed, wrapped_halted, too_deep, shut, unheard_inside, called, called_passed, called_halted, unreached, called_out, unanswered, unfit, answered, heard, answered_passed, entered, entered_halted, entered_exiting, born, fallen}
+use Rattle.tcl_core.specs.Rules.Derives.{completed, exited, acted, refused, unheard, went, passed, halted, wrapped, wrapped_passed, wrapped_halted, too_deep, shut, unheard_inside, called, called_passed, called_halted, unreached, called_out, unanswered, unfit, answered, heard, missed, answered_passed, entered, entered_halted, entered_exiting, born, fallen, unfound}
 use Rattle.tcl_core.specs.Laws.{with_more, more_grants, MoreMoves}
 use Rattle.tcl_core.proofs.PathLaws.{not_both}
 use Rattle.tcl_core.proofs.RuleLaws.{derived_runs, runs_derived}
@@ -126,13 +126,15 @@ module _ {O I : Type 0} (prog : Table O I) (m : List (Move O)) (more : List Gran
   derived_more (unfit w p s k a ms f g h t) z q = none_not z q
   derived_more (answered w p s k c u v e f g t a) z q = answered (big w) p s k c (big u) (big v) e f g (step_more w p _ u t) (derived_more a z q)
   derived_more (heard w p s k y u v e f g t a) z q = heard (big w) p s k y (big u) (big v) e f g (step_more w p _ u t) (derived_more a z q)
+  derived_more (missed w p s k u v e f g t a) z q = missed (big w) p s k (big u) (big v) e f g (step_more w p _ u t) (derived_more a z q)
   derived_more (answered_passed w p s k r u l f g t) z q = answered_passed (big w) p s k r (big u) l f g (step_more w p _ u t)
-  derived_more (entered w p s k t i inner left told v r e f s1 a s2 n b) z q =
-      entered (big w) p s k t i (big inner) (big left) (big told) (big v) r e f (step_more w t _ inner s1) (derived_more a r refl) (step_more left t _ told s2) n (derived_more b z q)
-  derived_more (entered_halted w p s k t i inner left f s1 a) z q = none_not z q
-  derived_more (entered_exiting w p s k t i inner left told v n e f s1 a s2 b) z q =
-      entered_exiting (big w) p s k t i (big inner) (big left) (big told) (big v) n e f (step_more w t _ inner s1) (derived_more a (Exit n) refl) (step_more left t _ told s2) (exits_more told p s n told.moves v e z q b)
+  derived_more (entered w p s k t i inner left told v r e f here s1 a s2 n b) z q =
+      entered (big w) p s k t i (big inner) (big left) (big told) (big v) r e f here (step_more w t _ inner s1) (derived_more a r refl) (step_more left t _ told s2) n (derived_more b z q)
+  derived_more (entered_halted w p s k t i inner left f here s1 a) z q = none_not z q
+  derived_more (entered_exiting w p s k t i inner left told v n e f here s1 a s2 b) z q =
+      entered_exiting (big w) p s k t i (big inner) (big left) (big told) (big v) n e f here (step_more w t _ inner s1) (derived_more a (Exit n) refl) (step_more left t _ told s2) (exits_more told p s n told.moves v e z q b)
   derived_more (born w p s k o b u v e f t a) z q = born (big w) p s k o b (big u) (big v) e f (step_more w [] _ u t) (derived_more a z q)
+  derived_more (unfound w p s k t i u v e f here b a) z q = unfound (big w) p s k t i (big u) (big v) e f here (step_more w [] _ u b) (derived_more a z q)
   derived_more (fallen w p s k u v e f t a) z q = fallen (big w) p s k (big u) (big v) e f (step_more w [] _ u t) (derived_more a z q)
 
 module _ {O I : Type 0} where

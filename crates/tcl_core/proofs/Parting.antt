@@ -5,12 +5,12 @@ use Rattle.tcl_core.specs.Endings.{Meter, Completion, Reply, IsQuit, refusal}
 use Rattle.tcl_core.specs.Endings.Meter.{Count, Depth}
 use Rattle.tcl_core.specs.Endings.Reply.{Completed, Stop, Exit, Cut}
 use Rattle.tcl_core.specs.Entries.{Entry, Answer, Said}
-use Rattle.tcl_core.specs.Entries.Answer.{Replied, Heard}
-use Rattle.tcl_core.specs.Entries.Said.{Finished, Told}
-use Rattle.tcl_core.specs.Trees.{at, Grants, Tree, Node, What, Event, Move, asked, where_none, at_top}
-use Rattle.tcl_core.specs.Trees.What.{Seen, Charged, Refused, Nested, Limited, DepthLimited, Made, Dropped, Out, In, Done, Back}
+use Rattle.tcl_core.specs.Entries.Answer.{Replied, Heard, Nobody}
+use Rattle.tcl_core.specs.Entries.Said.{Finished, Told, Missed}
+use Rattle.tcl_core.specs.Trees.{at, Grants, Tree, Node, What, Event, Move, asked, where_none, at_top, depth_of}
+use Rattle.tcl_core.specs.Trees.What.{Seen, Charged, Refused, Nested, Limited, DepthLimited, Made, Dropped, Out, In, Done, Back, Unfound}
 use Rattle.tcl_core.specs.Trees.Move.{Born, Fall, Enter, Come}
-use Rattle.tcl_core.specs.Programs.{Deed, spot, Act, Wrap, Wait, Prog, Table, decide, opens, closes, changing, making, dropping, dropping_at, either, metered, by_limit, blocked, is_spent, is_deep}
+use Rattle.tcl_core.specs.Programs.{Deed, spot, Act, Wrap, Wait, Prog, Table, decide, opens, closes, changing, making, dropping, either, metered, by_limit, blocked, is_spent, is_deep, or_lost}
 use Rattle.tcl_core.specs.Programs.Act.{Look, Change, Charge, Limit, LimitDepth, Make, Drop}
 use Rattle.tcl_core.specs.Programs.Wrap.{Deeper, Framed}
 use Rattle.tcl_core.specs.Programs.Next.{On, Off}
@@ -18,14 +18,15 @@ use Rattle.tcl_core.specs.Endings.Cause.{Above, Over}
 use Rattle.tcl_core.specs.Trees.Grant.{Allow, Deny}
 use Rattle.tcl_core.specs.Trees.Grants.{Listed, Budget}
 use Rattle.tcl_core.specs.Programs.Prog.{done, exit, act, go, inside, call, wait}
-use Rattle.tcl_core.specs.Runs.{World, Step, Ending, Halts, fits, Exits, Exiting, Follows, Hears, Leaves, Visits, Returns, Reaches, Closes, Opened, Stays, carried, reached, entering, ends_call, height_of}
+use Rattle.tcl_core.specs.Runs.{World, Step, Ending, Halts, fits, Exits, Exiting, Follows, Hears, Leaves, Visits, Returns, Reaches, Closes, Opened, Stays, carried, reached, ends_call, height_of, gone}
 use Rattle.tcl_core.specs.Rules.{Derives, IsNoExit}
-use Rattle.tcl_core.specs.Rules.Derives.{completed, exited, acted, refused, unheard, went, passed, halted, wrapped, wrapped_passed, wrapped_halted, too_deep, shut, unheard_inside, called, called_passed, called_halted, unreached, called_out, unanswered, unfit, answered, heard, answered_passed, entered, entered_halted, entered_exiting, born, fallen}
+use Rattle.tcl_core.specs.Rules.Derives.{completed, exited, acted, refused, unheard, went, passed, halted, wrapped, wrapped_passed, wrapped_halted, too_deep, shut, unheard_inside, called, called_passed, called_halted, unreached, called_out, unanswered, unfit, answered, heard, missed, answered_passed, entered, entered_halted, entered_exiting, born, fallen, unfound}
 use Rattle.tcl_core.specs.Laws.{ReadsMove, AtMove}
 use Rattle.tcl_core.proofs.PathLaws.{not_both, Some-inj, rise_back}
 use Rattle.tcl_core.proofs.Plain.{IsPlain}
-use Rattle.tcl_core.proofs.TreeLaws.{IsLife, reached_at}
+use Rattle.tcl_core.proofs.TreeLaws.{IsLife, reached_at, any_close, reached_stands}
 use Rattle.tcl_core.proofs.RuleLaws.{Ruled, open_rule, reach_rule, enter_rule}
+use Rattle.tcl_core.specs.Endings.Kind.{Full}
 
 module _ {O : Type 0} where
   -- the same, with these moves and this tape
@@ -126,6 +127,7 @@ module _ {O : Type 0} where
   plain_silent p (Back h i) f g ms = absurd f
   plain_silent p (In h i) f g ms = absurd f
   plain_silent p (Done h i) f g ms = absurd f
+  plain_silent p (Unfound t i c) f g ms = absurd f
   plain_silent p (Made o s) f g ms = let y : (y : List ℕ) × (q : Place) × (p ≡ y ∷ q) = g tt in ap (λ r. at_top r (Born o s) ms) y.2
   plain_silent p Dropped f g ms = let y : (y : List ℕ) × (q : Place) × (p ≡ y ∷ q) = g tt in ap (λ r. at_top r Fall ms) y.2
   plain_silent p _ f g ms = refl
@@ -162,11 +164,7 @@ module _ {O : Type 0} where
 
   dropping_silent : (p : Place) (name : List ℕ) (n : Option (Node O)) → Silent (spot p (dropping name n).0) (dropping name n).1
   dropping_silent p name None = λ ms. refl
-  dropping_silent p name (Some n) = by n.depth
-    where
-      by : (d : ℕ) → Silent {O = O} (spot p (dropping_at {O = O} name d).0) (dropping_at name d).1
-      by zero = λ ms. top_silent p name Fall ms
-      by (suc d) = λ ms. refl
+  dropping_silent p name (Some n) = λ ms. top_silent p name Fall ms
 
   pub act_silent : (d : Act O) (T : Tree O) (p : Place) (gs : Grants) (x : Deed O) → decide d T p gs ≡ Some x → Silent (spot p x.0) x.1
   act_silent Look T p gs x e = sil_of p (None, Seen, On) x (λ ms. refl) e
@@ -181,10 +179,8 @@ module _ {O : Type 0} where
   opens_silent Deeper T p gs x e = metered_silent p Depth Nested (blocked is_deep T p) gs x (λ ms. refl) e
   opens_silent (Framed o back) T p gs x e = sil_of p (changing o (T p)) x (changing_silent p o (T p)) e
 
-  pub closes_silent : (p : Place) (b : Wrap O) (n : Option (Node O)) → Silent p (closes b n)
-  closes_silent p Deeper n = λ ms. refl
-  closes_silent p (Framed o back) None = λ ms. refl
-  closes_silent p (Framed o back) (Some n) = λ ms. refl
+  pub closes_silent : (p : Place) (b : Wrap O) (m n : Option (Node O)) → Silent p (closes b m n)
+  closes_silent p b m n = any_close (Silent p) b m n (λ ms. refl) (λ ms. refl) (λ o ms. refl)
 
   -- a move that is read, with those that come first
   abbrev Split : World O → World O → Move O → List (Move O) → List (Move O) → Type 0
@@ -207,20 +203,16 @@ module _ {O I : Type 0} (prog : Table O I) where
   abbrev Visit_of : World O → List (Move O) → Height → Place → Entry → List (Event O) → World O → Ending → Type 0
   Visit_of w a h t i τ z o = Visits prog (Ruled prog) (cut w a τ) h t i z o
 
-  visit_end : (w inner left : World O) (a a1 l : List (Move O)) (h : Height) (t : Place) (i : Entry) (τ σ : List (Event O)) (r : Reply) (z : World O) → Step (cut w a (record { place = t; what = In h i } ∷ τ)) t (In h i) (cut inner a1 τ) →
-      Derives prog (cut inner a1 τ) t (entering prog (w.tree t) i) (cut left l σ) (Some r) → Step (cut left l σ) t (Done h r) z → Visit_of w a h t i (record { place = t; what = In h i } ∷ τ) z (Some r)
-  visit_end w inner left a a1 l h t i τ σ r z s d s2 = record { entered = cut inner a1 τ; left = cut left l σ; entry = s; run = d; leaving = s2 }
-
   -- a visit that came to its end
-  visited : (w inner left told : World O) (h : Height) (t : Place) (i : Entry) (r : Reply) (a a1 b : List (Move O)) → a ≡ asked t (In h i) a1 → Step w t (In h i) inner → Parts inner t (entering prog (w.tree t) i) left (Some r) a1 b → Step left t (Done h r) told →
+  visited : (w inner left told : World O) (h : Height) (t : Place) (i : Entry) (r : Reply) (a a1 b : List (Move O)) {node : Node O} → w.tree t ≡ Some node → a ≡ asked t (In h i) a1 → Step w t (In h i) inner → Parts inner t (prog.entry i) left (Some r) a1 b → Step left t (Done h r) told →
       Result w told (Visit_of w a h t i) (Some r) b
-  visited w inner left told h t i r a a1 b f s g s2 =
-      stepped w inner told t (In h i) (λ τ z o. (y : World O) × Derives prog (cut inner a1 τ) t (entering prog (w.tree t) i) y o × Leaves y h t o z) (Visit_of w a h t i) (Some r) a a1 b s f
-      (λ τ z o st d. record { entered = cut inner a1 τ; left = d.0; entry = st; run = d.1; leaving = d.2 })
-      (joined inner left told (Run_of inner a1 t (entering prog (w.tree t) i)) (λ τ z o. (y : World O) × Derives prog (cut inner a1 τ) t (entering prog (w.tree t) i) y o × Leaves y h t o z)
+  visited w inner left told h t i r a a1 b here f s g s2 =
+      stepped w inner told t (In h i) (λ τ z o. (y : World O) × Derives prog (cut inner a1 τ) t (prog.entry i) y o × Leaves y h t o z) (Visit_of w a h t i) (Some r) a a1 b s f
+      (λ τ z o st d. record { node = _; stands = here; entered = cut inner a1 τ; left = d.0; entry = st; run = d.1; leaving = d.2 })
+      (joined inner left told (Run_of inner a1 t (prog.entry i)) (λ τ z o. (y : World O) × Derives prog (cut inner a1 τ) t (prog.entry i) y o × Leaves y h t o z)
       (λ l σ z o. (o ≡ Some r) × Step (cut left l σ) t (Done h r) z) (Some r) (Some r) b g
       (λ made last d. (last, d, refl))
-      (λ l τ σ z n d e. (cut left l σ, subst (λ o. Derives prog (cut inner a1 τ) t (entering prog (w.tree t) i) (cut left l σ) o) (sym e.0) d, subst (λ o. Leaves (cut left l σ) h t o z) (sym e.0) e.1))
+      (λ l τ σ z n d e. (cut left l σ, subst (λ o. Derives prog (cut inner a1 τ) t (prog.entry i) (cut left l σ) o) (sym e.0) d, subst (λ o. Leaves (cut left l σ) h t o z) (sym e.0) e.1))
       (λ l m. stepped left told told t (Done h r) (λ σ z o. (o ≡ Some r) × (z ≡ cut told l σ)) (λ σ z o. (o ≡ Some r) × Step (cut left l σ) t (Done h r) z) (Some r) l l b s2 refl
       (λ σ z o st d. (d.0, subst (λ y. Step (cut left l (record { place = t; what = Done h r } ∷ σ)) t (Done h r) y) (sym d.1) st))
       (at_once told (λ σ z o. (o ≡ Some r) × (z ≡ cut told l σ)) (Some r) l b (sym s2.moves ∙ m) (λ σ. (refl, refl)))))
@@ -371,19 +363,19 @@ module _ {O I : Type 0} (prog : Table O I) where
       let f : Silent (spot p x.0) x.1 = opens_silent l w.tree p w.grants x g in
       stepped w inner v (spot p x.0) x.1 (λ τ y o. Opened prog (Ruled prog) (cut inner a τ) p l i k On y o) (Run_of w a p (inside l i k)) e a a b s (sym (f a))
       (λ τ y o st d. open_rule prog (cut w a (record { place = spot p x.0; what = x.1 } ∷ τ)) p l i k (Some x) y o g (cut inner a τ, st, subst (λ q. Opened prog (Ruled prog) (cut inner a τ) p l i k q y o) (sym on) d))
-      (joined inner left v (Run_of inner a p (prog.program i)) (λ τ y o. Opened prog (Ruled prog) (cut inner a τ) p l i k On y o) (λ j σ y n. Closes (Ruled prog) (cut left j σ) p l k (Some (Completed c)) y n) (Some (Completed c)) e b (part r a b (silent_moves w (spot p x.0) x.1 inner a b f s m))
+      (joined inner left v (Run_of inner a p (prog.program i)) (λ τ y o. Opened prog (Ruled prog) (cut inner a τ) p l i k On y o) (λ j σ y n. Closes (Ruled prog) (inner.tree p) (cut left j σ) p l k (Some (Completed c)) y n) (Some (Completed c)) e b (part r a b (silent_moves w (spot p x.0) x.1 inner a b f s m))
       (λ made last d. (last, None, d, (refl, refl))) (λ j τ σ y n d1 d2. (cut left j σ, Some (Completed c), d1, d2))
-      (λ j m2. stepped left closed v p (closes l (left.tree p)) (Run_of closed j p (k c)) (λ σ y n. Closes (Ruled prog) (cut left j σ) p l k (Some (Completed c)) y n) e j j b t (sym (closes_silent p l (left.tree p) j))
-      (λ τ y o st d. (cut closed j τ, st, d)) (part z j b (silent_moves left p (closes l (left.tree p)) closed j b (closes_silent p l (left.tree p)) t m2))))
+      (λ j m2. stepped left closed v p (closes l (inner.tree p) (left.tree p)) (Run_of closed j p (k c)) (λ σ y n. Closes (Ruled prog) (inner.tree p) (cut left j σ) p l k (Some (Completed c)) y n) e j j b t (sym (closes_silent p l (inner.tree p) (left.tree p) j))
+      (λ τ y o st d. (cut closed j τ, st, d)) (part z j b (silent_moves left p (closes l (inner.tree p) (left.tree p)) closed j b (closes_silent p l (inner.tree p) (left.tree p)) t m2))))
   part (wrapped_passed w p l i k x inner left closed r q g on s y t) a b m =
       let f : Silent (spot p x.0) x.1 = opens_silent l w.tree p w.grants x g in
       stepped w inner closed (spot p x.0) x.1 (λ τ y o. Opened prog (Ruled prog) (cut inner a τ) p l i k On y o) (Run_of w a p (inside l i k)) (Some r) a a b s (sym (f a))
       (λ τ y o st d. open_rule prog (cut w a (record { place = spot p x.0; what = x.1 } ∷ τ)) p l i k (Some x) y o g (cut inner a τ, st, subst (λ q. Opened prog (Ruled prog) (cut inner a τ) p l i k q y o) (sym on) d))
-      (joined inner left closed (Run_of inner a p (prog.program i)) (λ τ y o. Opened prog (Ruled prog) (cut inner a τ) p l i k On y o) (λ j σ y n. Closes (Ruled prog) (cut left j σ) p l k (Some r) y n) (Some r) (Some r) b (part y a b (silent_moves w (spot p x.0) x.1 inner a b f s m))
+      (joined inner left closed (Run_of inner a p (prog.program i)) (λ τ y o. Opened prog (Ruled prog) (cut inner a τ) p l i k On y o) (λ j σ y n. Closes (Ruled prog) (inner.tree p) (cut left j σ) p l k (Some r) y n) (Some r) (Some r) b (part y a b (silent_moves w (spot p x.0) x.1 inner a b f s m))
       (λ made last d. (last, None, d, (refl, refl))) (λ j τ σ y n d1 d2. (cut left j σ, Some r, d1, d2))
-      (λ j m2. stepped left closed closed p (closes l (left.tree p)) (λ τ y o. (o ≡ Some r) × (y ≡ cut closed j τ)) (λ σ y n. Closes (Ruled prog) (cut left j σ) p l k (Some r) y n) (Some r) j j b t (sym (closes_silent p l (left.tree p) j))
+      (λ j m2. stepped left closed closed p (closes l (inner.tree p) (left.tree p)) (λ τ y o. (o ≡ Some r) × (y ≡ cut closed j τ)) (λ σ y n. Closes (Ruled prog) (inner.tree p) (cut left j σ) p l k (Some r) y n) (Some r) j j b t (sym (closes_silent p l (inner.tree p) (left.tree p) j))
       (λ τ y o st d. (cut closed j τ, st, quits_ruled (cut closed j τ) p k r y o q d.1 d.0))
-      (at_once closed (λ τ y o. (o ≡ Some r) × (y ≡ cut closed j τ)) (Some r) j b (silent_moves left p (closes l (left.tree p)) closed j b (closes_silent p l (left.tree p)) t m2) (λ σ. (refl, refl)))))
+      (at_once closed (λ τ y o. (o ≡ Some r) × (y ≡ cut closed j τ)) (Some r) j b (silent_moves left p (closes l (inner.tree p) (left.tree p)) closed j b (closes_silent p l (inner.tree p) (left.tree p)) t m2) (λ σ. (refl, refl)))))
   part (wrapped_halted w p l i k x inner left g on s r) a b m =
       let f : Silent (spot p x.0) x.1 = opens_silent l w.tree p w.grants x g in
       stepped w inner left (spot p x.0) x.1 (λ τ y o. Opened prog (Ruled prog) (cut inner a τ) p l i k On y o) (Run_of w a p (inside l i k)) None a a b s (sym (f a))
@@ -393,7 +385,7 @@ module _ {O I : Type 0} (prog : Table O I) where
       (λ τ y o q d. (y, None, d.1, (refl, d.0))))
   part (too_deep w p l i k x u v e g deep s r) a b m =
       let f : Silent (spot p x.0) x.1 = opens_silent l w.tree p w.grants x g in
-      stepped w u v (spot p x.0) x.1 (Run_of u a p (k (refusal Depth))) (Run_of w a p (inside l i k)) e a a b s (sym (f a))
+      stepped w u v (spot p x.0) x.1 (Run_of u a p (k (refusal (Full Depth)))) (Run_of w a p (inside l i k)) e a a b s (sym (f a))
       (λ τ z o st d. too_deep (cut w a (record { place = spot p x.0; what = x.1 } ∷ τ)) p l i k x (cut u a τ) z o g deep st d) (part r a b (silent_moves w (spot p x.0) x.1 u a b f s m))
   part (shut w p l i k x r u g off s) a b m =
       let f : Silent (spot p x.0) x.1 = opens_silent l w.tree p w.grants x g in
@@ -402,41 +394,41 @@ module _ {O I : Type 0} (prog : Table O I) where
   part (called w p h down i lost k a0 t out inner left told back v r c e f s1 g s2 x s3 so s4 z) a b m =
       stepped w out v p (Out h down i) (λ τ y o. Reaches prog (Ruled prog) (cut out a τ) p h down i lost k (Some t) y o) (Run_of w a p (call h down i lost k)) e a a b s1 refl
       (λ τ y o st d. reach_rule prog (cut w a (record { place = p; what = Out h down i } ∷ τ)) p h down i lost k (cut out a τ) a0 (Some t) y o f g st d)
-      (joined out told v (Visit_of out a (Some (length down)) t i) (λ τ y o. Reaches prog (Ruled prog) (cut out a τ) p h down i lost k (Some t) y o) (λ l σ y n. Returns (Ruled prog) (cut told l σ) p h down k (Some r) y n) (Some r) e b
-      (visited out inner left told (Some (length down)) t i r a a b (in_silent out a0 t down i g a) s2 (part x a b (silent_moves out t (In (Some (length down)) i) inner a b (λ ms. sym (in_silent out a0 t down i g ms)) s2 (sym s1.moves ∙ m))) s3)
+      (joined out told v (Visit_of out a (Some (length down)) t i) (λ τ y o. Reaches prog (Ruled prog) (cut out a τ) p h down i lost k (Some t) y o) (λ l σ y n. Returns (Ruled prog) (depth_of (out.tree p)) (cut told l σ) p h down k (Some r) y n) (Some r) e b
+      (visited out inner left told (Some (length down)) t i r a a b (reached_stands out.tree a0 down t g).1 (in_silent out a0 t down i g a) s2 (part x a b (silent_moves out t (In (Some (length down)) i) inner a b (λ ms. sym (in_silent out a0 t down i g ms)) s2 (sym s1.moves ∙ m))) s3)
       (λ made last d. (last, None, d, (refl, refl))) (λ l τ σ y n d1 d2. (cut told l σ, Some r, d1, d2))
-      (λ l m2. stepped told back v p (Back h (Replied (carried h p down r))) (Run_of back l p (k (Finished c))) (λ σ y n. Returns (Ruled prog) (cut told l σ) p h down k (Some r) y n) e l l b s4 (sym (back_silent p a0 h (Replied (carried h p down r)) f l))
+      (λ l m2. stepped told back v p (Back h (Replied (carried (gone (depth_of (out.tree p)) told.tree p) h p down r))) (Run_of back l p (k (Finished c))) (λ σ y n. Returns (Ruled prog) (depth_of (out.tree p)) (cut told l σ) p h down k (Some r) y n) e l l b s4 (sym (back_silent p a0 h (Replied (carried (gone (depth_of (out.tree p)) told.tree p) h p down r)) f l))
       (λ τ y o st d. (cut back l τ, st, subst (λ q. Hears (Ruled prog) (cut back l τ) p k (Replied q) y o) (sym so) d))
-      (part z l b (silent_moves told p (Back h (Replied (carried h p down r))) back l b (back_silent p a0 h (Replied (carried h p down r)) f) s4 m2))))
+      (part z l b (silent_moves told p (Back h (Replied (carried (gone (depth_of (out.tree p)) told.tree p) h p down r))) back l b (back_silent p a0 h (Replied (carried (gone (depth_of (out.tree p)) told.tree p) h p down r)) f) s4 m2))))
   part (called_passed w p h down i lost k a0 t out inner left told back r f s1 g s2 x s3 q s4) a b m =
-      stepped w out back p (Out h down i) (λ τ y o. Reaches prog (Ruled prog) (cut out a τ) p h down i lost k (Some t) y o) (Run_of w a p (call h down i lost k)) (Some (carried h p down r)) a a b s1 refl
+      stepped w out back p (Out h down i) (λ τ y o. Reaches prog (Ruled prog) (cut out a τ) p h down i lost k (Some t) y o) (Run_of w a p (call h down i lost k)) (Some (carried (gone (depth_of (out.tree p)) told.tree p) h p down r)) a a b s1 refl
       (λ τ y o st d. reach_rule prog (cut w a (record { place = p; what = Out h down i } ∷ τ)) p h down i lost k (cut out a τ) a0 (Some t) y o f g st d)
-      (joined out told back (Visit_of out a (Some (length down)) t i) (λ τ y o. Reaches prog (Ruled prog) (cut out a τ) p h down i lost k (Some t) y o) (λ l σ y n. Returns (Ruled prog) (cut told l σ) p h down k (Some r) y n) (Some r) (Some (carried h p down r)) b
-      (visited out inner left told (Some (length down)) t i r a a b (in_silent out a0 t down i g a) s2 (part x a b (silent_moves out t (In (Some (length down)) i) inner a b (λ ms. sym (in_silent out a0 t down i g ms)) s2 (sym s1.moves ∙ m))) s3)
+      (joined out told back (Visit_of out a (Some (length down)) t i) (λ τ y o. Reaches prog (Ruled prog) (cut out a τ) p h down i lost k (Some t) y o) (λ l σ y n. Returns (Ruled prog) (depth_of (out.tree p)) (cut told l σ) p h down k (Some r) y n) (Some r) (Some (carried (gone (depth_of (out.tree p)) told.tree p) h p down r)) b
+      (visited out inner left told (Some (length down)) t i r a a b (reached_stands out.tree a0 down t g).1 (in_silent out a0 t down i g a) s2 (part x a b (silent_moves out t (In (Some (length down)) i) inner a b (λ ms. sym (in_silent out a0 t down i g ms)) s2 (sym s1.moves ∙ m))) s3)
       (λ made last d. (last, None, d, (refl, refl))) (λ l τ σ y n d1 d2. (cut told l σ, Some r, d1, d2))
-      (λ l m2. stepped told back back p (Back h (Replied (carried h p down r))) (λ τ y o. (o ≡ Some (carried h p down r)) × (y ≡ cut back l τ)) (λ σ y n. Returns (Ruled prog) (cut told l σ) p h down k (Some r) y n) (Some (carried h p down r)) l l b s4 (sym (back_silent p a0 h (Replied (carried h p down r)) f l))
-      (λ τ y o st d. (cut back l τ, st, hears_ruled (cut back l τ) p k (carried h p down r) y o q d.1 d.0))
-      (at_once back (λ τ y o. (o ≡ Some (carried h p down r)) × (y ≡ cut back l τ)) (Some (carried h p down r)) l b (silent_moves told p (Back h (Replied (carried h p down r))) back l b (back_silent p a0 h (Replied (carried h p down r)) f) s4 m2) (λ σ. (refl, refl)))))
+      (λ l m2. stepped told back back p (Back h (Replied (carried (gone (depth_of (out.tree p)) told.tree p) h p down r))) (λ τ y o. (o ≡ Some (carried (gone (depth_of (out.tree p)) told.tree p) h p down r)) × (y ≡ cut back l τ)) (λ σ y n. Returns (Ruled prog) (depth_of (out.tree p)) (cut told l σ) p h down k (Some r) y n) (Some (carried (gone (depth_of (out.tree p)) told.tree p) h p down r)) l l b s4 (sym (back_silent p a0 h (Replied (carried (gone (depth_of (out.tree p)) told.tree p) h p down r)) f l))
+      (λ τ y o st d. (cut back l τ, st, hears_ruled (cut back l τ) p k (carried (gone (depth_of (out.tree p)) told.tree p) h p down r) y o q d.1 d.0))
+      (at_once back (λ τ y o. (o ≡ Some (carried (gone (depth_of (out.tree p)) told.tree p) h p down r)) × (y ≡ cut back l τ)) (Some (carried (gone (depth_of (out.tree p)) told.tree p) h p down r)) l b (silent_moves told p (Back h (Replied (carried (gone (depth_of (out.tree p)) told.tree p) h p down r))) back l b (back_silent p a0 h (Replied (carried (gone (depth_of (out.tree p)) told.tree p) h p down r)) f) s4 m2) (λ σ. (refl, refl)))))
   part (called_halted w p h down i lost k a0 t out inner left f s1 g s2 x) a b m =
       stepped w out left p (Out h down i) (λ τ y o. Reaches prog (Ruled prog) (cut out a τ) p h down i lost k (Some t) y o) (Run_of w a p (call h down i lost k)) None a a b s1 refl
       (λ τ y o st d. reach_rule prog (cut w a (record { place = p; what = Out h down i } ∷ τ)) p h down i lost k (cut out a τ) a0 (Some t) y o f g st d)
-      (stepped out inner left t (In (Some (length down)) i) (λ τ y o. (o ≡ None) × Derives prog (cut inner a τ) t (entering prog (out.tree t) i) y None) (λ τ y o. Reaches prog (Ruled prog) (cut out a τ) p h down i lost k (Some t) y o) None a a b s2 (in_silent out a0 t down i g a)
-      (λ τ y o st d. (y, None, record { entered = cut inner a τ; left = y; entry = st; run = d.1; leaving = refl }, (refl, d.0)))
-      (none_part inner left t (entering prog (out.tree t) i) a b (part x a b (silent_moves out t (In (Some (length down)) i) inner a b (λ ms. sym (in_silent out a0 t down i g ms)) s2 (sym s1.moves ∙ m)))))
+      (stepped out inner left t (In (Some (length down)) i) (λ τ y o. (o ≡ None) × Derives prog (cut inner a τ) t (prog.entry i) y None) (λ τ y o. Reaches prog (Ruled prog) (cut out a τ) p h down i lost k (Some t) y o) None a a b s2 (in_silent out a0 t down i g a)
+      (λ τ y o st d. (y, None, record { node = (reached_stands out.tree a0 down t g).0; stands = (reached_stands out.tree a0 down t g).1; entered = cut inner a τ; left = y; entry = st; run = d.1; leaving = refl }, (refl, d.0)))
+      (none_part inner left t (prog.entry i) a b (part x a b (silent_moves out t (In (Some (length down)) i) inner a b (λ ms. sym (in_silent out a0 t down i g ms)) s2 (sym s1.moves ∙ m)))))
   part (unreached w p h down i lost k a0 out back v e f s1 g s2 x) a b m =
       stepped w out v p (Out h down i) (λ τ y o. Reaches prog (Ruled prog) (cut out a τ) p h down i lost k None y o) (Run_of w a p (call h down i lost k)) e a a b s1 refl
       (λ τ y o st d. reach_rule prog (cut w a (record { place = p; what = Out h down i } ∷ τ)) p h down i lost k (cut out a τ) a0 None y o f g st d)
       (stepped out back v p (Back h (Replied (Completed lost))) (Run_of back a p (k (Finished lost))) (λ τ y o. Reaches prog (Ruled prog) (cut out a τ) p h down i lost k None y o) e a a b s2 (sym (back_silent p a0 h (Replied (Completed lost)) f a))
       (λ τ y o st d. (cut back a τ, st, d)) (part x a b (silent_moves out p (Back h (Replied (Completed lost))) back a b (back_silent p a0 h (Replied (Completed lost)) f) s2 (sym s1.moves ∙ m))))
   part (called_out w p h down i lost k u v e f s r) a b m =
-      stepped w u v p (Out h down i) (Run_of u a p (wait (Some (h, i)) k)) (Run_of w a p (call h down i lost k)) e a a b s refl
+      stepped w u v p (Out h down i) (Run_of u a p (wait (Some (h, i, depth_of (u.tree p))) (or_lost lost k))) (Run_of w a p (call h down i lost k)) e a a b s refl
       (λ τ y o st d. called_out (cut w a (record { place = p; what = Out h down i } ∷ τ)) p h down i lost k (cut u a τ) y o f st d) (part r a b (sym s.moves ∙ m))
   part (unanswered w p s k f g t) a b m = halts_here w (Run_of w a p (wait s k)) None a b t (unanswered (cut w a []) p s k f (nil_of a b (sym g ∙ m)) refl)
   part (unfit w p s k y ms f g h t) a b m = by a m
     where
       by : (a : List (Move O)) → w.moves ≡ a ++ b → Parts w p (wait s k) w None a b
       by [] m = halts_here w (Run_of w [] p (wait s k)) None [] b t (unanswered (cut w [] []) p s k f refl refl)
-      by (z ∷ a1) m = let same : y ≡ z = (let q : y ∷ ms ≡ z ∷ (a1 ++ b) = sym g ∙ m in cc) in halts_here w (Run_of w (z ∷ a1) p (wait s k)) None (z ∷ a1) b t (unfit (cut w (z ∷ a1) []) p s k z a1 f refl (subst (λ q. fits s q ≡ false) same h) refl)
+      by (z ∷ a1) m = let same : y ≡ z = (let q : y ∷ ms ≡ z ∷ (a1 ++ b) = sym g ∙ m in cc) in halts_here w (Run_of w (z ∷ a1) p (wait s k)) None (z ∷ a1) b t (unfit (cut w (z ∷ a1) []) p s k z a1 f refl (subst (λ q. fits w.tree p s q ≡ false) same h) refl)
   part (answered w p s k c u v e f g t r) a b m = by (split w u (Come (Replied (Completed c))) a b m (t.moves ∙ sym (back_reads p (height_of s) (Replied (Completed c)) f u.moves))) (λ l. part r l b)
     where
       by : Split w u (Come (Replied (Completed c))) a b → ((l : List (Move O)) → u.moves ≡ l ++ b → Parts u p (k (Finished c)) v e l b) → Parts w p (wait s k) v e a b
@@ -451,6 +443,13 @@ module _ {O I : Type 0} (prog : Table O I) where
       by (inr (a1, z, n)) rec =
           stepped w u v p (Back (height_of s) (Heard x)) (Run_of u a1 p (k (Told x))) (Run_of w a p (wait s k)) e a a1 b t (z ∙ back_reads p (height_of s) (Heard x) f a1)
           (λ τ y o st d. heard (cut w a (record { place = p; what = Back (height_of s) (Heard x) } ∷ τ)) p s k x (cut u a1 τ) y o f g st d) (rec a1 n)
+  part (missed w p s k u v e f g t r) a b m = by (split w u (Come Nobody) a b m (t.moves ∙ sym (back_reads p (height_of s) Nobody f u.moves))) (λ l. part r l b)
+    where
+      by : Split w u (Come Nobody) a b → ((l : List (Move O)) → u.moves ≡ l ++ b → Parts u p (k Missed) v e l b) → Parts w p (wait s k) v e a b
+      by (inl z) rec = stop_here w u p p (Back (height_of s) Nobody) (Come Nobody) s k a e v b f t (λ ms. sym (back_reads p (height_of s) Nobody f ms)) z
+      by (inr (a1, z, n)) rec =
+          stepped w u v p (Back (height_of s) Nobody) (Run_of u a1 p (k Missed)) (Run_of w a p (wait s k)) e a a1 b t (z ∙ back_reads p (height_of s) Nobody f a1)
+          (λ τ y o st d. missed (cut w a (record { place = p; what = Back (height_of s) Nobody } ∷ τ)) p s k (cut u a1 τ) y o f g st d) (rec a1 n)
   part (answered_passed w p s k r u q f g t) a b m = by (split w u (Come (Replied r)) a b m (t.moves ∙ sym (back_reads p (height_of s) (Replied r) f u.moves)))
     where
       by : Split w u (Come (Replied r)) a b → Parts w p (wait s k) u (Some r) a b
@@ -458,30 +457,37 @@ module _ {O I : Type 0} (prog : Table O I) where
       by (inr (a1, z, n)) =
           last_step w u p (Back (height_of s) (Replied r)) p (wait s k) r a a1 b t (z ∙ back_reads p (height_of s) (Replied r) f a1) n
           (λ τ st. answered_passed (cut w a (record { place = p; what = Back (height_of s) (Replied r) } ∷ τ)) p s k r (cut u a1 τ) q f g st)
-  part (entered w p s k t i inner left told v r e f s1 x s2 n y) a b m = by (split w inner (Enter t i) a b m s1.moves) (λ l. part x l b) (λ l. part y l b)
+  part (entered w p s k t i inner left told v r e f here s1 x s2 n y) a b m = by (split w inner (Enter t i) a b m s1.moves) (λ l. part x l b) (λ l. part y l b)
     where
-      by : Split w inner (Enter t i) a b → ((l : List (Move O)) → inner.moves ≡ l ++ b → Parts inner t (entering prog (w.tree t) i) left (Some r) l b) → ((l : List (Move O)) → told.moves ≡ l ++ b → Parts told p (wait s k) v e l b) → Parts w p (wait s k) v e a b
+      by : Split w inner (Enter t i) a b → ((l : List (Move O)) → inner.moves ≡ l ++ b → Parts inner t (prog.entry i) left (Some r) l b) → ((l : List (Move O)) → told.moves ≡ l ++ b → Parts told p (wait s k) v e l b) → Parts w p (wait s k) v e a b
       by (inl z) rec rec2 = stop_here w inner p t (In None i) (Enter t i) s k a e v b f s1 (λ ms. refl) z
       by (inr (a1, z, q)) rec rec2 =
-          joined w told v (Visit_of w a None t i) (Run_of w a p (wait s k)) (λ l. Run_of told l p (wait s k)) (Some r) e b (visited w inner left told None t i r a a1 b z s1 (rec a1 q) s2)
+          joined w told v (Visit_of w a None t i) (Run_of w a p (wait s k)) (λ l. Run_of told l p (wait s k)) (Some r) e b (visited w inner left told None t i r a a1 b here z s1 (rec a1 q) s2)
           (λ made last d. enter_rule prog (cut w a made) p s k t i last None last None f d (refl, refl))
           (λ l τ σ y2 o d1 d2. enter_rule prog (cut w a τ) p s k t i (cut told l σ) (Some r) y2 o f d1 (stays_ruled (cut told l σ) p s k r y2 o n d2)) (λ l m2. rec2 l m2)
-  part (entered_exiting w p s k t i inner left told v n e f s1 x s2 y) a b m = by (split w inner (Enter t i) a b m s1.moves) (λ l. part x l b)
+  part (entered_exiting w p s k t i inner left told v n e f here s1 x s2 y) a b m = by (split w inner (Enter t i) a b m s1.moves) (λ l. part x l b)
     where
-      by : Split w inner (Enter t i) a b → ((l : List (Move O)) → inner.moves ≡ l ++ b → Parts inner t (entering prog (w.tree t) i) left (Some (Exit n)) l b) → Parts w p (wait s k) v e a b
+      by : Split w inner (Enter t i) a b → ((l : List (Move O)) → inner.moves ≡ l ++ b → Parts inner t (prog.entry i) left (Some (Exit n)) l b) → Parts w p (wait s k) v e a b
       by (inl z) rec = stop_here w inner p t (In None i) (Enter t i) s k a e v b f s1 (λ ms. refl) z
       by (inr (a1, z, q)) rec =
-          joined w told v (Visit_of w a None t i) (Run_of w a p (wait s k)) (λ l. Exits_of told l p s n) (Some (Exit n)) e b (visited w inner left told None t i (Exit n) a a1 b z s1 (rec a1 q) s2)
+          joined w told v (Visit_of w a None t i) (Run_of w a p (wait s k)) (λ l. Exits_of told l p s n) (Some (Exit n)) e b (visited w inner left told None t i (Exit n) a a1 b here z s1 (rec a1 q) s2)
           (λ made last d. enter_rule prog (cut w a made) p s k t i last None last None f d (refl, refl))
           (λ l τ σ y2 o d1 d2. enter_rule prog (cut w a τ) p s k t i (cut told l σ) (Some (Exit n)) y2 o f d1 d2) (λ l m2. exits_part told p s n told.moves v e f refl y l b m2)
-  part (entered_halted w p s k t i inner left f s1 x) a b m = by (split w inner (Enter t i) a b m s1.moves) (λ l. part x l b)
+  part (entered_halted w p s k t i inner left f here s1 x) a b m = by (split w inner (Enter t i) a b m s1.moves) (λ l. part x l b)
     where
-      by : Split w inner (Enter t i) a b → ((l : List (Move O)) → inner.moves ≡ l ++ b → Parts inner t (entering prog (w.tree t) i) left None l b) → Parts w p (wait s k) left None a b
+      by : Split w inner (Enter t i) a b → ((l : List (Move O)) → inner.moves ≡ l ++ b → Parts inner t (prog.entry i) left None l b) → Parts w p (wait s k) left None a b
       by (inl z) rec = stop_here w inner p t (In None i) (Enter t i) s k a None left b f s1 (λ ms. refl) z
       by (inr (a1, z, q)) rec =
-          stepped w inner left t (In None i) (λ τ y o. (o ≡ None) × Derives prog (cut inner a1 τ) t (entering prog (w.tree t) i) y None) (Run_of w a p (wait s k)) None a a1 b s1 z
-          (λ τ y o st d. subst (λ o2. Derives prog (cut w a (record { place = t; what = In None i } ∷ τ)) p (wait s k) y o2) (sym d.0) (entered_halted (cut w a (record { place = t; what = In None i } ∷ τ)) p s k t i (cut inner a1 τ) y f st d.1))
-          (none_part inner left t (entering prog (w.tree t) i) a1 b (rec a1 q))
+          stepped w inner left t (In None i) (λ τ y o. (o ≡ None) × Derives prog (cut inner a1 τ) t (prog.entry i) y None) (Run_of w a p (wait s k)) None a a1 b s1 z
+          (λ τ y o st d. subst (λ o2. Derives prog (cut w a (record { place = t; what = In None i } ∷ τ)) p (wait s k) y o2) (sym d.0) (entered_halted (cut w a (record { place = t; what = In None i } ∷ τ)) p s k t i (cut inner a1 τ) y f here st d.1))
+          (none_part inner left t (prog.entry i) a1 b (rec a1 q))
+  part (unfound w p s k t i u v e f here s1 r) a b m = by (split w u (Enter t i) a b m s1.moves) (λ l. part r l b)
+    where
+      by : Split w u (Enter t i) a b → ((l : List (Move O)) → u.moves ≡ l ++ b → Parts u p (wait s k) v e l b) → Parts w p (wait s k) v e a b
+      by (inl z) rec = stop_here w u p [] (Unfound t i (prog.lost t)) (Enter t i) s k a e v b f s1 (λ ms. refl) z
+      by (inr (a1, z, n)) rec =
+          stepped w u v [] (Unfound t i (prog.lost t)) (Run_of u a1 p (wait s k)) (Run_of w a p (wait s k)) e a a1 b s1 z
+          (λ τ y o2 st d. unfound (cut w a (record { place = []; what = Unfound t i (prog.lost t) } ∷ τ)) p s k t i (cut u a1 τ) y o2 f here st d) (rec a1 n)
   part (born w p s k o c u v e f t r) a b m = by (split w u (Born o c) a b m t.moves) (λ l. part r l b)
     where
       by : Split w u (Born o c) a b → ((l : List (Move O)) → u.moves ≡ l ++ b → Parts u p (wait s k) v e l b) → Parts w p (wait s k) v e a b

@@ -8,12 +8,13 @@ use Rattle.tcl_core.specs.Endings.Cause.{Above, Over}
 use Rattle.tcl_core.specs.Trees.{Grants, Tree, Node, What}
 use Rattle.tcl_core.specs.Trees.Grant.{Allow, Deny}
 use Rattle.tcl_core.specs.Trees.Grants.{Listed, Budget}
-use Rattle.tcl_core.specs.Trees.What.{Seen, Charged, Refused, Nested, Limited, DepthLimited, Out, In, Done, Back}
-use Rattle.tcl_core.specs.Programs.{Act, Wrap, Deed, decide, opens, closes, changing, making, dropping, dropping_at, metered, by_limit, blocked, is_spent, is_deep}
+use Rattle.tcl_core.specs.Trees.What.{Seen, Charged, Refused, Nested, Limited, DepthLimited, Out, In, Done, Back, Unfound}
+use Rattle.tcl_core.specs.Programs.{Act, Wrap, Deed, decide, opens, closes, changing, making, dropping, metered, by_limit, blocked, is_spent, is_deep}
 use Rattle.tcl_core.specs.Programs.Next.{On, Off}
 use Rattle.tcl_core.specs.Programs.Act.{Look, Change, Charge, Limit, LimitDepth, Make, Drop}
 use Rattle.tcl_core.specs.Programs.Wrap.{Deeper, Framed}
 use Rattle.tcl_core.proofs.PathLaws.{not_both, Some-inj}
+use Rattle.tcl_core.proofs.TreeLaws.{any_close}
 
 module _ {O : Type 0} where
   abbrev pub IsPlain : What O → Type 0
@@ -21,6 +22,7 @@ module _ {O : Type 0} where
   IsPlain (Back h a) = Prim.⊥
   IsPlain (In h i) = Prim.⊥
   IsPlain (Done h r) = Prim.⊥
+  IsPlain (Unfound t i c) = Prim.⊥
   IsPlain _ = Unit {0}
 
   plain_of : (y x : Deed O) → IsPlain y.1 → Some y ≡ Some x → IsPlain x.1
@@ -46,11 +48,7 @@ module _ {O : Type 0} where
 
   dropping_plain : (name : List ℕ) (n : Option (Node O)) → IsPlain (dropping name n).1
   dropping_plain name None = tt
-  dropping_plain name (Some n) = go n.depth
-    where
-      go : (d : ℕ) → IsPlain (dropping_at {O = O} name d).1
-      go zero = tt
-      go (suc d) = tt
+  dropping_plain name (Some n) = tt
 
   pub decide_plain : (d : Act O) (T : Tree O) (p : Place) (gs : Grants) (x : Deed O) → decide d T p gs ≡ Some x → IsPlain x.1
   decide_plain Look T p gs x e = plain_of (None, Seen, On) x tt e
@@ -65,7 +63,5 @@ module _ {O : Type 0} where
   opens_plain Deeper T p gs x e = metered_plain Depth Nested (blocked is_deep T p) gs x tt e
   opens_plain (Framed o back) T p gs x e = plain_of (changing o (T p)) x (changing_plain o (T p)) e
 
-  pub closes_plain : (b : Wrap O) (n : Option (Node O)) → IsPlain (closes b n)
-  closes_plain Deeper n = tt
-  closes_plain (Framed o back) None = tt
-  closes_plain (Framed o back) (Some n) = tt
+  pub closes_plain : (b : Wrap O) (m n : Option (Node O)) → IsPlain (closes b m n)
+  closes_plain b m n = any_close IsPlain b m n tt tt (λ o. tt)

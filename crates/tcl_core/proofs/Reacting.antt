@@ -8,7 +8,7 @@ use Rattle.tcl_core.specs.Trees.{What, Event, Move}
 use Rattle.tcl_core.specs.Trees.What.{Made, Dropped, In, Done}
 use Rattle.tcl_core.specs.Trees.Move.{Born, Fall, Enter, Come}
 use Rattle.tcl_core.specs.Programs.{Table}
-use Rattle.tcl_core.specs.Runs.{World, Step, Ending, Halts, Exits, Stays, Visits, Runs, RunsIn, entering}
+use Rattle.tcl_core.specs.Runs.{World, Step, Ending, Halts, Exits, Stays, Visits, Runs, RunsIn}
 use Rattle.tcl_core.specs.Views.{moves_of, view, kept, from_above}
 use Rattle.tcl_core.specs.Lives.{Lives, Outcome, idle, never}
 use Rattle.tcl_core.specs.Lives.Outcome.{Finished}
@@ -54,7 +54,7 @@ module _ {O : Type 0} where
   abbrev pub IsHanded : World O → Type 0
   IsHanded w = w.moves ≡ moves_of w.tape
 
-  handed_step : KeepsSteps IsHanded
+  pub handed_step : KeepsSteps IsHanded
   handed_step w p x v due s h = asked-inj p x v.moves (moves_of v.tape) (sym s.moves ∙ h ∙ ap moves_of s.tape)
 
   lasting_step : KeepsSteps {O = O} (λ w. IsLasting w.tape)
@@ -94,10 +94,12 @@ module _ {O I : Type 0} (prog : Table O I) (k : ℕ) where
 
   pub visit_budget : (z : World O) (t : Place) (i : Entry) (u : World O) (r : Reply) → IsUncut z.tape → Visits prog (Runs prog) z None t i u (Some r) → Visits prog (Runs prog) (bud z) None t i (bud u) (Some r)
   visit_budget z t i u r f a = record {
+    node = a.node;
+    stands = a.stands;
     entered = bud a.entered;
     left = bud a.left;
     entry = step_budget k z t (In None i) a.entered a.entry;
-    run = derived_runs prog (derived_budget prog k (runs_derived prog a.entered t (entering prog (z.tree t) i) a.left (Some r) a.run) (fine_step z t (In None i) a.entered a.entry f).1 r refl);
+    run = derived_runs prog (derived_budget prog k (runs_derived prog a.entered t (prog.entry i) a.left (Some r) a.run) (fine_step z t (In None i) a.entered a.entry f).1 r refl);
     leaving = step_budget k a.left t (Done None r) u a.leaving;
   }
 
@@ -106,21 +108,21 @@ module _ {O I : Type 0} (prog : Table O I) (k : ℕ) where
       IsHanded u × IsLasting u.tape × IsUncut u.tape × (x ≡ outcome_of u.tape (ending_of r)) × Uncut {O = O} t (Done None r)
   after_visit z t i u r x e a b c d =
       let k1 : Kept x d.entered = kept_step x z t (In None i) d.entered tt d.entry (a, b, c, (Finished, e)) in
-      let k2 : Kept x d.left = runs_keep (Kept x) (kept_step x) prog d.entered t (entering prog (z.tree t) i) d.left (Some r) d.run k1 in
+      let k2 : Kept x d.left = runs_keep (Kept x) (kept_step x) prog d.entered t (prog.entry i) d.left (Some r) d.run k1 in
       let k3 : Kept x u = kept_step x d.left t (Done None r) u tt d.leaving k2 in
       let f : Uncut {O = O} t (Done None r) × IsUncut u.tape = fine_step d.left t (Done None r) u d.leaving k2.2 in
       (k3.0, k3.1, k3.2, k2.3.1 ∙ ap (λ τ. outcome_of τ k2.3.0) d.leaving.tape, f.0)
 
   pub balanced_after : (z : World O) (t : Place) (i : Entry) (u : World O) (r : Reply) → Visits prog (Runs prog) z None t i u (Some r) → ins [] z.tape ≡ dones [] z.tape → ins [] u.tape ≡ dones [] u.tape
   balanced_after z t i u r a b =
-      let o : Owes [] z u (Some r) = visit_owes [] z a.entered a.left u None t i r a.entry (owes [] prog (runs_derived prog a.entered t (entering prog (z.tree t) i) a.left (Some r) a.run)) a.leaving in
+      let o : Owes [] z u (Some r) = visit_owes [] z a.entered a.left u None t i r a.entry (owes [] prog (runs_derived prog a.entered t (prog.entry i) a.left (Some r) a.run)) a.leaving in
       let s : ins [] z.tape + dones [] u.tape ≡ dones [] z.tape + ins [] u.tape + o.open_ins = o.sum in
       let n : o.open_ins ≡ 0 = o.none_left r refl in
       omega arith
 
   pub never_halts : {A : Type 0} (z : World O) (t : Place) (i : Entry) (u : World O) → Visits prog (Runs prog) z None t i u None → ins [] z.tape ≡ dones [] z.tape → u.tape ≡ [] → A
   never_halts z t i u a b f =
-      let o : Owes [] a.entered a.left None = owes [] prog (runs_derived prog a.entered t (entering prog (z.tree t) i) a.left None a.run) in
+      let o : Owes [] a.entered a.left None = owes [] prog (runs_derived prog a.entered t (prog.entry i) a.left None a.run) in
       let s : ins [] z.tape + dones [] a.left.tape ≡ dones [] z.tape + ins [] a.left.tape + suc o.open_ins = halted_more [] z a.entered a.left None t i refl a.entry o in
       let g : a.left.tape ≡ [] = ap (λ y. y.tape) (sym a.leaving) ∙ f in
       let p : ins [] a.left.tape ≡ 0 = ap (ins []) g in
@@ -128,7 +130,7 @@ module _ {O I : Type 0} (prog : Table O I) (k : ℕ) where
       absurd (omega arith)
 
   pub lift_visits : (n : ℕ) (z : World O) (t : Place) (i : Entry) (u : World O) (o : Ending) → Visits prog (RunsIn prog n) z None t i u o → Visits prog (Runs prog) z None t i u o
-  lift_visits n z t i u o a = record { entered = a.entered; left = a.left; entry = a.entry; run = (n, a.run); leaving = a.leaving }
+  lift_visits n z t i u o a = record { node = a.node; stands = a.stands; entered = a.entered; left = a.left; entry = a.entry; run = (n, a.run); leaving = a.leaving }
 
 module _ {O I : Type 0} where
   -- a whole evaluation is a life

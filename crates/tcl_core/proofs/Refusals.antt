@@ -5,26 +5,27 @@ use Rattle.tcl_core.specs.Endings.{Meter, Completion, Reply, Cause}
 use Rattle.tcl_core.specs.Endings.Meter.{Count, Depth}
 use Rattle.tcl_core.specs.Endings.Reply.{Completed, Stop, Exit, Cut}
 use Rattle.tcl_core.specs.Entries.Answer.{Replied}
-use Rattle.tcl_core.specs.Trees.{Grants, Tree, Node, What, Event, Move}
+use Rattle.tcl_core.specs.Trees.{Grants, Tree, Node, What, Event, Move, depth_of}
 use Rattle.tcl_core.specs.Trees.Grant.{Allow, Deny}
 use Rattle.tcl_core.specs.Trees.Grants.{Listed, Budget}
-use Rattle.tcl_core.specs.Trees.What.{Seen, Charged, Nested, Limited, DepthLimited, Refused, Out, Done, Back}
+use Rattle.tcl_core.specs.Trees.What.{Seen, Charged, Nested, Limited, DepthLimited, Refused, Out, Done, Back, Unfound}
 use Rattle.tcl_core.specs.Trees.Move.{Born, Fall, Enter, Come}
 use Rattle.tcl_core.specs.Programs.{Deed, spot, Act, Wrap, Wait, Next, Prog, Table, decide, opens, closes, changing, making, dropping, metered, by_limit, blocked, is_spent, is_deep}
 use Rattle.tcl_core.specs.Programs.Act.{Look, Change, Charge, Limit, LimitDepth, Make, Drop}
 use Rattle.tcl_core.specs.Endings.Cause.{Above, Over}
 use Rattle.tcl_core.specs.Programs.Next.{On, TooDeep, Off}
 use Rattle.tcl_core.specs.Programs.Wrap.{Deeper, Framed}
-use Rattle.tcl_core.specs.Runs.{World, Step, Ending, Halts, Exits, Exiting, carried, reached, ends_call, height_of}
+use Rattle.tcl_core.specs.Runs.{World, Step, Ending, Halts, Exits, Exiting, carried, reached, ends_call, height_of, gone}
 use Rattle.tcl_core.specs.Rules.{Derives, IsOn}
-use Rattle.tcl_core.specs.Rules.Derives.{completed, exited, acted, refused, unheard, went, passed, halted, wrapped, wrapped_passed, wrapped_halted, too_deep, shut, unheard_inside, called, called_passed, called_halted, unreached, called_out, unanswered, unfit, answered, heard, answered_passed, entered, entered_halted, entered_exiting, born, fallen}
+use Rattle.tcl_core.specs.Rules.Derives.{completed, exited, acted, refused, unheard, went, passed, halted, wrapped, wrapped_passed, wrapped_halted, too_deep, shut, unheard_inside, called, called_passed, called_halted, unreached, called_out, unanswered, unfit, answered, heard, missed, answered_passed, entered, entered_halted, entered_exiting, born, fallen, unfound}
 use Rattle.tcl_core.specs.Lives.{outs_of, put, told}
 use Rattle.tcl_core.specs.Laws.{Unended, IsUnended}
 use Rattle.tcl_core.proofs.PathLaws.{not_both, Some-inj, rise_back}
 use Rattle.tcl_core.proofs.Stops.{changing_on, making_on, dropping_on}
 use Rattle.tcl_core.specs.Lives.{Uncut}
 use Rattle.tcl_core.proofs.Unended.{IsNoCut, decide_uncut, opens_uncut}
-use Rattle.tcl_core.proofs.TreeLaws.{reached_at}
+use Rattle.tcl_core.proofs.TreeLaws.{reached_at, any_close}
+use Rattle.tcl_core.specs.Endings.Kind.{Full}
 
 pub cut_or : (n : Next) → IsNoCut n ⊎ ((c : Cause) × (n ≡ Off (Cut c)))
 cut_or On = inl tt
@@ -46,7 +47,7 @@ no_off r e = absurd (bad e)
 pub by_limit_fine : {A : Type 0} (m : Meter) (n : ℕ) (c : Cause) → by_limit m n ≡ Off (Cut c) → A
 by_limit_fine Count n c e = absurd (bad e)
   where
-    bad : Off (Stop n Count) ≡ Off (Cut c) → Prim.⊥
+    bad : Off (Stop n (Full Count)) ≡ Off (Cut c) → Prim.⊥
     bad f = cc
 by_limit_fine Depth zero c e = absurd (bad e)
   where
@@ -54,12 +55,17 @@ by_limit_fine Depth zero c e = absurd (bad e)
     bad f = cc
 by_limit_fine Depth (suc n) c e = absurd (bad e)
   where
-    bad : Off (Stop (suc n) Depth) ≡ Off (Cut c) → Prim.⊥
+    bad : Off (Stop (suc n) (Full Depth)) ≡ Off (Cut c) → Prim.⊥
     bad f = cc
 
 abbrev where_out : Option Place → Type 0 → Type 0 → Type 0
 where_out None a b = a
 where_out (Some z) a b = b
+
+-- what is cut off is told so
+pub carried_is : (g : Option ℕ) (h : Height) (p : Place) (down : Path) (r : Reply) (c : Cause) → r ≡ Cut c → carried g h p down r ≡ Cut c
+carried_is None h p down r c e = ap (carried None h p down) e
+carried_is (Some g) h p down r c e = ap (carried (Some g) h p down) e
 
 module _ {O : Type 0} where
   -- a refusal from outside
@@ -119,6 +125,7 @@ module _ {O : Type 0} where
   hush p (Done h (Cut c)) t = where_out (rise_to h p) (Unit {0}) t
   hush p (Done h r) t = where_out (rise_to h p) Prim.⊥ t
   hush p (Out h down i) t = where_out (rise_to h p) Prim.⊥ t
+  hush p (Unfound t2 i c) t = Prim.⊥
   hush p x t = t
 
   -- nothing is told to the outside but that an entry is cut off
@@ -137,15 +144,11 @@ module _ {O : Type 0} where
   quiet : (w : World O) (p : Place) (x : What O) (u : World O) → Step w p x u → (IsRefusal p x → Hushed u.tape) → Shuts u.tape → Shuts w.tape
   quiet w p x u s f g = subst Shuts (sym s.tape) (f, g)
 
-  closes_fine : {A : Type 0} (p : Place) (b : Wrap O) (n : Option (Node O)) → IsRefusal p (closes b n) → A
-  closes_fine p Deeper n f = absurd f
-  closes_fine p (Framed o back) None f = absurd f
-  closes_fine p (Framed o back) (Some n) f = absurd f
+  closes_fine : {A : Type 0} (p : Place) (b : Wrap O) (m n : Option (Node O)) → IsRefusal p (closes b m n) → A
+  closes_fine {A} p b m n = any_close (λ x. IsRefusal p x → A) b m n (λ f. absurd f) (λ f. absurd f) (λ o f. absurd f)
 
-  hush_closes : (p : Place) (b : Wrap O) (n : Option (Node O)) (t : Type 0) → t → hush p (closes b n) t
-  hush_closes p Deeper n t a = a
-  hush_closes p (Framed o back) None t a = a
-  hush_closes p (Framed o back) (Some n) t a = a
+  hush_closes : (p : Place) (b : Wrap O) (m n : Option (Node O)) (t : Type 0) → t → hush p (closes b m n) t
+  hush_closes p b m n t a = any_close (λ x. hush p x t) b m n a a (λ o. a)
 
   hushed : (w : World O) (p : Place) (x : What O) (u : World O) → Step w p x u → hush p x (Hushed u.tape) → Hushed w.tape
   hushed w p x u s f = subst Hushed (sym s.tape) f
@@ -204,8 +207,8 @@ module _ {O I : Type 0} (prog : Table O I) where
   off_as : (r : Reply) (n : Next) (c : Cause) → n ≡ Off r → n ≡ Off (Cut c) → Some r ≡ Some (Cut c)
   off_as r n c e f = let g : Off r ≡ Off (Cut c) = sym e ∙ f in cc
 
-  close : (w : World O) (p : Place) (b : Wrap O) (u : World O) → Step w p (closes b (w.tree p)) u → Shuts u.tape → Shuts w.tape
-  close w p b u s h = quiet w p (closes b (w.tree p)) u s (λ f. closes_fine p b (w.tree p) f) h
+  close : (n : Option (Node O)) (w : World O) (p : Place) (b : Wrap O) (u : World O) → Step w p (closes b n (w.tree p)) u → Shuts u.tape → Shuts w.tape
+  close n w p b u s h = quiet w p (closes b n (w.tree p)) u s (λ f. closes_fine p b n (w.tree p) f) h
 
   pub shutting : {w : World O} {p : Place} {x : Prog O I} {v : World O} {e : Ending} → Derives prog w p x v e → Demand e v → Shuts v.tape → Shuts w.tape
   shutting (completed w p y) d h = h
@@ -217,21 +220,21 @@ module _ {O I : Type 0} (prog : Table O I) where
   shutting (passed w p i k u r q a) d h = shutting a d h
   shutting (halted w p i k u a) d h = shutting a d h
   shutting (wrapped w p b i k x inner left closed v y e g on s a t z) d h =
-      open_on w p b x inner g (subst IsOn (sym on) tt) s (shutting a (no_demand y left) (close left p b closed t (shutting z d h)))
+      open_on w p b x inner g (subst IsOn (sym on) tt) s (shutting a (no_demand y left) (close (inner.tree p) left p b closed t (shutting z d h)))
   shutting (wrapped_passed w p b i k x inner left closed r q g on s a t) d h =
       open_on w p b x inner g (subst IsOn (sym on) tt) s
-      (shutting a (λ c f. hushed left p (closes b (left.tree p)) closed t (hush_closes p b (left.tree p) (Hushed closed.tape) (d c f))) (close left p b closed t h))
+      (shutting a (λ c f. hushed left p (closes b (inner.tree p) (left.tree p)) closed t (hush_closes p b (inner.tree p) (left.tree p) (Hushed closed.tape) (d c f))) (close (inner.tree p) left p b closed t h))
   shutting (wrapped_halted w p b i k x inner left g on s a) d h = open_on w p b x inner g (subst IsOn (sym on) tt) s (shutting a d h)
   shutting (too_deep w p b i k x u v e g deep s a) d h = open_on w p b x u g (subst IsOn (sym deep) tt) s (shutting a d h)
   shutting (shut w p b i k x r u g off s) d h = quiet w (spot p x.0) x.1 u s (λ f. let z : (c : Cause) × (x.2 ≡ Off (Cut c)) = refusal_shuts b w.tree p w.grants x g f in d z.0 (off_as r x.2 z.0 off z.1)) h
   shutting (unheard_inside w p b i k g t) d h = h
   shutting (called w p h down i lost k a t out inner left told back v r y e g s1 j s2 x s3 so s4 b) d f =
       quiet w p _ out s1 (λ z. absurd z) (quiet out t _ inner s2 (λ z. absurd z)
-      (shutting x (λ c z. no_demand y left c (ap Some (sym so ∙ ap (carried h p down) (Some-inj r z))))
+      (shutting x (λ c z. no_demand y left c (ap Some (sym so ∙ carried_is (gone (depth_of (out.tree p)) told.tree p) h p down r c (Some-inj r z))))
       (quiet left t _ told s3 (λ z. absurd z) (quiet told p _ back s4 (λ z. absurd z) (shutting b d f)))))
   shutting (called_passed w p h down i lost k a t out inner left told back r g s1 j s2 x s3 q s4) d f =
       quiet w p _ out s1 (λ z. absurd z) (quiet out t _ inner s2 (λ z. absurd z)
-      (shutting x (λ c z. hushed left t _ told s3 (hush_within O t (Some (length down)) r a (Hushed told.tape) (within out.tree a t down j) (hushed told p _ back s4 (d c (ap Some (ap (carried h p down) (Some-inj r z)))))))
+      (shutting x (λ c z. hushed left t _ told s3 (hush_within O t (Some (length down)) r a (Hushed told.tape) (within out.tree a t down j) (hushed told p _ back s4 (d c (ap Some (carried_is (gone (depth_of (out.tree p)) told.tree p) h p down r c (Some-inj r z)))))))
       (quiet left t _ told s3 (λ z. absurd z) (quiet told p _ back s4 (λ z. absurd z) f))))
   shutting (called_halted w p h down i lost k a t out inner left g s1 j s2 x) d f = quiet w p _ out s1 (λ z. absurd z) (quiet out t _ inner s2 (λ z. absurd z) (shutting x (none_demand left) f))
   shutting (unreached w p h down i lost k a out back v e g s1 j s2 x) d f = quiet w p _ out s1 (λ z. absurd z) (quiet out p _ back s2 (λ z. absurd z) (shutting x d f))
@@ -240,13 +243,15 @@ module _ {O I : Type 0} (prog : Table O I) where
   shutting (unfit w p s k m ms g j l t) d h = h
   shutting (answered w p s k y u v e g j t a) d h = quiet w p _ u t (λ z. absurd z) (shutting a d h)
   shutting (heard w p s k y u v e g j t a) d h = quiet w p _ u t (λ z. absurd z) (shutting a d h)
+  shutting (missed w p s k u v e g j t a) d h = quiet w p _ u t (λ z. absurd z) (shutting a d h)
   shutting (answered_passed w p s k r u q g j t) d h = quiet w p _ u t (λ z. absurd z) h
-  shutting (entered w p s k t i inner left told v r e g s1 a s2 n b) d h =
+  shutting (entered w p s k t i inner left told v r e g here s1 a s2 n b) d h =
       quiet w t _ inner s1 (λ z. absurd z) (shutting a (cut_entry left t r told s2) (quiet left t _ told s2 (λ z. absurd z) (shutting b d h)))
-  shutting (entered_halted w p s k t i inner left g s1 a) d h = quiet w t _ inner s1 (λ z. absurd z) (shutting a (none_demand left) h)
-  shutting (entered_exiting w p s k t i inner left told v n e g s1 a s2 b) d h =
+  shutting (entered_halted w p s k t i inner left g here s1 a) d h = quiet w t _ inner s1 (λ z. absurd z) (shutting a (none_demand left) h)
+  shutting (entered_exiting w p s k t i inner left told v n e g here s1 a s2 b) d h =
       quiet w t _ inner s1 (λ z. absurd z) (shutting a (exit_demand n left) (quiet left t _ told s2 (λ z. absurd z) (exits_shut told p s n told.moves v e b h)))
   shutting (born w p s k o b u v e g t a) d h = quiet w [] _ u t (λ z. absurd z) (shutting a d h)
+  shutting (unfound w p s k t i u v e g here b a) d h = quiet w [] _ u b (λ z. absurd z) (shutting a d h)
   shutting (fallen w p s k u v e g t a) d h = quiet w [] _ u t (λ z. absurd z) (shutting a d h)
 
 module _ {O : Type 0} where
@@ -264,6 +269,7 @@ module _ {O : Type 0} where
   quiet_told p (Done h (Stop n m)) τ t f u g = put_in (rise_to h p) p (Done h (Stop n m)) τ t f g
   quiet_told p (Done h (Exit n)) τ t f u g = put_in (rise_to h p) p (Done h (Exit n)) τ t f g
   quiet_told p (Done h (Cut c)) τ t f u g = cut_in (rise_to h p) p (Done h (Cut c)) τ t u f g
+  quiet_told p (Unfound t2 i c) τ t f u g = absurd f
   quiet_told p x τ t f u g = g f
 
   -- where nothing is ended from outside, nothing is told

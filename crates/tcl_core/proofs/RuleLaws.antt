@@ -1,21 +1,22 @@
 -- The rules say what `Runs` says.
+use Rattle.tcl_core.proofs.TreeLaws.{reached_stands}
 use Rattle.std.proofs.Common.{◌≡◌, ℕ, zero, suc, Bool, true, false, List, [], ◌∷◌, Option, Some, None, refl, sym, ◌∙◌, ap, subst}
 use Rattle.tcl_core.specs.Paths.{Path, Place, Height, rise_to}
 use Rattle.tcl_core.specs.Endings.{Completion, Reply, IsQuit}
 use Rattle.tcl_core.specs.Endings.Reply.{Completed, Stop, Exit, Cut}
 use Rattle.tcl_core.specs.Entries.{Entry, Answer, Said}
-use Rattle.tcl_core.specs.Entries.Answer.{Replied, Heard}
-use Rattle.tcl_core.specs.Trees.{Tree, Move, at}
+use Rattle.tcl_core.specs.Entries.Answer.{Replied, Heard, Nobody}
+use Rattle.tcl_core.specs.Trees.{Tree, Move, at, depth_of, Node}
 use Rattle.tcl_core.specs.Trees.What.{Out}
 use Rattle.tcl_core.specs.Trees.Move.{Born, Fall, Enter, Come}
 use Rattle.tcl_core.specs.Programs.{Deed, spot, Act, Wrap, Wait, Next, Prog, Table, decide, opens}
 use Rattle.tcl_core.specs.Programs.Next.{On, TooDeep, Off}
 use Rattle.tcl_core.specs.Programs.Prog.{done, exit, act, go, inside, call, wait}
-use Rattle.tcl_core.specs.Runs.{World, Step, Ending, Run, Halts, Then, Closes, Acted, Acts, Opened, Opens, Hears, Answered, Visits, Reaches, Calls, Stays, Moves, Fitting, Waits, Unrolled, RunsIn, Runs, carried, reached, fits, height_of}
+use Rattle.tcl_core.specs.Runs.{World, Step, Ending, Run, Halts, Then, Closes, Acted, Acts, Opened, Opens, Hears, Answered, Visits, Reaches, Calls, Stays, Moves, Fitting, Waits, Unrolled, RunsIn, Runs, carried, reached, fits, height_of, gone, Enters}
 use Rattle.tcl_core.specs.Rules.{Derives, IsOn, IsNoExit}
-use Rattle.tcl_core.specs.Rules.Derives.{completed, exited, acted, refused, unheard, went, passed, halted, wrapped, wrapped_passed, wrapped_halted, too_deep, shut, unheard_inside, called, called_passed, called_halted, unreached, called_out, unanswered, unfit, answered, heard, answered_passed, entered, entered_halted, entered_exiting, born, fallen}
+use Rattle.tcl_core.specs.Rules.Derives.{completed, exited, acted, refused, unheard, went, passed, halted, wrapped, wrapped_passed, wrapped_halted, too_deep, shut, unheard_inside, called, called_passed, called_halted, unreached, called_out, unanswered, unfit, answered, heard, missed, answered_passed, entered, entered_halted, entered_exiting, born, fallen, unfound}
 use Rattle.tcl_core.proofs.Folding.{roll, Implies, unrolled_map}
-use Rattle.tcl_core.proofs.Subtrees.{wait_born, wait_fall, wait_halt, wait_answer, wait_enter, quits, hears_quit}
+use Rattle.tcl_core.proofs.Subtrees.{wait_born, wait_fall, wait_halt, wait_answer, wait_enter, quits, hears_quit, wait_unfound}
 
 module _ {O I : Type 0} (prog : Table O I) where
   calls_at : (w : World O) (p : Place) (h : Height) (down : Path) (i : Entry) (lost : Completion) (k : Said → Prog O I) (u : World O) (a : Option Place) (v : World O) (e : Ending) → rise_to h p ≡ a → Step w p (Out h down i) u → Calls prog (Runs prog) u p h down i lost k a v e → Runs prog w p (call h down i lost k) v e
@@ -38,7 +39,7 @@ module _ {O I : Type 0} (prog : Table O I) where
   on_acted w u p k TooDeep v e f a = a
   on_acted w u p k (Off r) v e f a = absurd f
 
-  fitted_at : (w : World O) (p : Place) (s : Wait) (k : Said → Prog O I) (m : Move O) (ms : List (Move O)) (b : Bool) (v : World O) (e : Ending) → rise_to (height_of s) p ≡ None → w.moves ≡ m ∷ ms → fits s m ≡ b → Fitting prog (Runs prog) w p s k b m v e → Runs prog w p (wait s k) v e
+  fitted_at : (w : World O) (p : Place) (s : Wait) (k : Said → Prog O I) (m : Move O) (ms : List (Move O)) (b : Bool) (v : World O) (e : Ending) → rise_to (height_of s) p ≡ None → w.moves ≡ m ∷ ms → fits w.tree p s m ≡ b → Fitting prog (Runs prog) w p s k b m v e → Runs prog w p (wait s k) v e
   fitted_at w p s k m ms b v e f g h a =
       roll prog w p (wait s k) v e (f, subst (λ l. Waits prog (Runs prog) w p s k l v e) (sym g) (subst (λ c. Fitting prog (Runs prog) w p s k c m v e) (sym h) a))
 
@@ -69,33 +70,35 @@ module _ {O I : Type 0} (prog : Table O I) where
       reaches_at w p h down i lost k out a (Some t) v e f g s1 (
         told,
         Some r,
-        record { entered = inner; left = left; entry = s2; run = derived_runs x; leaving = s3 },
+        record { node = (reached_stands out.tree a down t g).0; stands = (reached_stands out.tree a down t g).1; entered = inner; left = left; entry = s2; run = derived_runs x; leaving = s3 },
         (back, s4, subst (λ l. Hears (Runs prog) back p k (Replied l) v e) (sym y) (derived_runs z)),
       )
   derived_runs (called_passed w p h down i lost k a t out inner left told back r f s1 g s2 x s3 q s4) =
-      reaches_at w p h down i lost k out a (Some t) back (Some (carried h p down r)) f g s1 (
+      reaches_at w p h down i lost k out a (Some t) back (Some (carried (gone (depth_of (out.tree p)) told.tree p) h p down r)) f g s1 (
         told,
         Some r,
-        record { entered = inner; left = left; entry = s2; run = derived_runs x; leaving = s3 },
-        (back, s4, hears_quit prog back p k (carried h p down r) back (Some (carried h p down r)) q refl refl),
+        record { node = (reached_stands out.tree a down t g).0; stands = (reached_stands out.tree a down t g).1; entered = inner; left = left; entry = s2; run = derived_runs x; leaving = s3 },
+        (back, s4, hears_quit prog back p k (carried (gone (depth_of (out.tree p)) told.tree p) h p down r) back (Some (carried (gone (depth_of (out.tree p)) told.tree p) h p down r)) q refl refl),
       )
   derived_runs (called_halted w p h down i lost k a t out inner left f s1 g s2 x) =
-      reaches_at w p h down i lost k out a (Some t) left None f g s1 (left, None, record { entered = inner; left = left; entry = s2; run = derived_runs x; leaving = refl }, (refl, refl))
+      reaches_at w p h down i lost k out a (Some t) left None f g s1 (left, None, record { node = (reached_stands out.tree a down t g).0; stands = (reached_stands out.tree a down t g).1; entered = inner; left = left; entry = s2; run = derived_runs x; leaving = refl }, (refl, refl))
   derived_runs (unreached w p h down i lost k a out back v e f s1 g s2 x) = reaches_at w p h down i lost k out a None v e f g s1 (back, s2, derived_runs x)
   derived_runs (called_out w p h down i lost k u v e f s a) = calls_at w p h down i lost k u None v e f s (derived_runs a)
   derived_runs (unanswered w p s k f m t) = wait_halt prog w p s k w None f m (record { tape = t; same = refl; ending = refl })
   derived_runs (unfit w p s k m ms f g h t) = fitted_at w p s k m ms false w None f g h (record { tape = t; same = refl; ending = refl })
   derived_runs (answered w p s k c u v e f g t a) = wait_answer prog w p s k (Replied (Completed c)) v e f g (u, t, derived_runs a)
   derived_runs (heard w p s k y u v e f g t a) = wait_answer prog w p s k (Heard y) v e f g (u, t, derived_runs a)
+  derived_runs (missed w p s k u v e f g t a) = wait_answer prog w p s k Nobody v e f g (u, t, derived_runs a)
   derived_runs (answered_passed w p s k r u q f g t) = wait_answer prog w p s k (Replied r) u (Some r) f g (u, t, hears_quit prog u p k r u (Some r) q refl refl)
-  derived_runs (entered w p s k t i inner left told v r e f s1 a s2 n b) =
-      wait_enter prog w p s k t i told (Some r) v e f (record { entered = inner; left = left; entry = s1; run = derived_runs a; leaving = s2 }) (stays_on told p s k r v e n (derived_runs b))
-  derived_runs (entered_halted w p s k t i inner left f s1 a) =
-      wait_enter prog w p s k t i left None left None f (record { entered = inner; left = left; entry = s1; run = derived_runs a; leaving = refl }) (refl, refl)
-  derived_runs (entered_exiting w p s k t i inner left told v n e f s1 a s2 b) =
-      wait_enter prog w p s k t i told (Some (Exit n)) v e f (record { entered = inner; left = left; entry = s1; run = derived_runs a; leaving = s2 }) b
+  derived_runs (entered w p s k t i inner left told v r e f here s1 a s2 n b) =
+      wait_enter prog w p s k t i told (Some r) v e f (record { node = _; stands = here; entered = inner; left = left; entry = s1; run = derived_runs a; leaving = s2 }) (stays_on told p s k r v e n (derived_runs b))
+  derived_runs (entered_halted w p s k t i inner left f here s1 a) =
+      wait_enter prog w p s k t i left None left None f (record { node = _; stands = here; entered = inner; left = left; entry = s1; run = derived_runs a; leaving = refl }) (refl, refl)
+  derived_runs (entered_exiting w p s k t i inner left told v n e f here s1 a s2 b) =
+      wait_enter prog w p s k t i told (Some (Exit n)) v e f (record { node = _; stands = here; entered = inner; left = left; entry = s1; run = derived_runs a; leaving = s2 }) b
   derived_runs (born w p s k o b u v e f t a) = wait_born prog w p s k o b u v e f t (derived_runs a)
   derived_runs (fallen w p s k u v e f t a) = wait_fall prog w p s k u v e f t (derived_runs a)
+  derived_runs (unfound w p s k t i u v e f here b a) = wait_unfound prog w p s k t i u v e f here b (derived_runs a)
 
   -- the other way
   abbrev pub Ruled : Run O I
@@ -124,7 +127,7 @@ module _ {O I : Type 0} (prog : Table O I) where
   go_rule w p i k u (Some (Cut c)) v e a b = ended_at w u v p (go i k) (Some (Cut c)) e b.0 b.1 (passed w p i k u (Cut c) tt a)
 
   close_rule : (w : World O) (p : Place) (b : Wrap O) (i : I) (k : Completion → Prog O I) (x : Deed O) (inner left : World O) (o : Ending) (v : World O) (e : Ending) → opens b w.tree p w.grants ≡ Some x → x.2 ≡ On → Step w (spot p x.0) x.1 inner →
-      Derives prog inner p (prog.program i) left o → Closes Ruled left p b k o v e → Derives prog w p (inside b i k) v e
+      Derives prog inner p (prog.program i) left o → Closes Ruled (inner.tree p) left p b k o v e → Derives prog w p (inside b i k) v e
   close_rule w p b i k x inner left None v e g h s a c = ended_at w left v p (inside b i k) None e c.0 c.1 (wrapped_halted w p b i k x inner left g h s a)
   close_rule w p b i k x inner left (Some (Completed y)) v e g h s a (u, t, c) = wrapped w p b i k x inner left u v y e g h s a t c
   close_rule w p b i k x inner left (Some (Stop n m)) v e g h s a (u, t, c) = ended_at w u v p (inside b i k) (Some (Stop n m)) e c.0 c.1 (wrapped_passed w p b i k x inner left u (Stop n m) tt g h s a t)
@@ -144,13 +147,13 @@ module _ {O I : Type 0} (prog : Table O I) where
   reach_rule w p h down i lost k u a None v e f g s (y, s2, c) = unreached w p h down i lost k a u y v e f s g s2 c
   reach_rule w p h down i lost k u a (Some t) v e f g s (y, None, c, d) =
       ended_at w y v p (call h down i lost k) None e d.0 d.1 (subst (λ z. Derives prog w p (call h down i lost k) z None) (sym c.leaving) (called_halted w p h down i lost k a t u c.entered c.left f s g c.entry c.run))
-  reach_rule w p h down i lost k u a (Some t) v e f g s (y, Some r, c, (z, s4, d)) = by (carried h p down r) refl d
+  reach_rule w p h down i lost k u a (Some t) v e f g s (y, Some r, c, (z, s4, d)) = by (carried (gone (depth_of (u.tree p)) y.tree p) h p down r) refl d
     where
-      quit : (l : Reply) → IsQuit l → carried h p down r ≡ l → v ≡ z → e ≡ Some l → Derives prog w p (call h down i lost k) v e
-      quit l q j d0 d1 = ended_at w z v p (call h down i lost k) (Some (carried h p down r)) e d0 (d1 ∙ ap Some (sym j))
+      quit : (l : Reply) → IsQuit l → carried (gone (depth_of (u.tree p)) y.tree p) h p down r ≡ l → v ≡ z → e ≡ Some l → Derives prog w p (call h down i lost k) v e
+      quit l q j d0 d1 = ended_at w z v p (call h down i lost k) (Some (carried (gone (depth_of (u.tree p)) y.tree p) h p down r)) e d0 (d1 ∙ ap Some (sym j))
           (called_passed w p h down i lost k a t u c.entered c.left y z r f s g c.entry c.run c.leaving (subst IsQuit (sym j) q) s4)
 
-      by : (l : Reply) → carried h p down r ≡ l → Hears Ruled z p k (Replied l) v e → Derives prog w p (call h down i lost k) v e
+      by : (l : Reply) → carried (gone (depth_of (u.tree p)) y.tree p) h p down r ≡ l → Hears Ruled z p k (Replied l) v e → Derives prog w p (call h down i lost k) v e
       by (Completed x) j b = called w p h down i lost k a t u c.entered c.left y z v r x e f s g c.entry c.run c.leaving j s4 b
       by (Stop n m) j b = quit (Stop n m) tt j b.0 b.1
       by (Exit n) j b = quit (Exit n) tt j b.0 b.1
@@ -160,8 +163,9 @@ module _ {O I : Type 0} (prog : Table O I) where
   call_rule w p h down i lost k u None v e f s c = called_out w p h down i lost k u v e f s c
   call_rule w p h down i lost k u (Some a) v e f s c = reach_rule w p h down i lost k u a (reached u.tree a down) v e f refl s c
 
-  pub answer_rule : (w : World O) (p : Place) (s : Wait) (k : Said → Prog O I) (a : Answer) (v : World O) (e : Ending) → rise_to (height_of s) p ≡ None → fits {O = O} s (Come a) ≡ true → Answered Ruled w p (height_of s) k a v e → Derives prog w p (wait s k) v e
+  pub answer_rule : (w : World O) (p : Place) (s : Wait) (k : Said → Prog O I) (a : Answer) (v : World O) (e : Ending) → rise_to (height_of s) p ≡ None → fits w.tree p s (Come a) ≡ true → Answered Ruled w p (height_of s) k a v e → Derives prog w p (wait s k) v e
   answer_rule w p s k (Heard y) v e f g (u, t, b) = heard w p s k y u v e f g t b
+  answer_rule w p s k Nobody v e f g (u, t, b) = missed w p s k u v e f g t b
   answer_rule w p s k (Replied (Completed c)) v e f g (u, t, b) = answered w p s k c u v e f g t b
   answer_rule w p s k (Replied (Stop n m)) v e f g (u, t, b) = ended_at w u v p (wait s k) (Some (Stop n m)) e b.0 b.1 (answered_passed w p s k (Stop n m) u tt f g t)
   answer_rule w p s k (Replied (Exit n)) v e f g (u, t, b) = ended_at w u v p (wait s k) (Some (Exit n)) e b.0 b.1 (answered_passed w p s k (Exit n) u tt f g t)
@@ -169,25 +173,29 @@ module _ {O I : Type 0} (prog : Table O I) where
 
   pub enter_rule : (w : World O) (p : Place) (s : Wait) (k : Said → Prog O I) (t : Path) (i : Entry) (u : World O) (o : Ending) (v : World O) (e : Ending) → rise_to (height_of s) p ≡ None → Visits prog Ruled w None t i u o → Stays Ruled u p s k o v e → Derives prog w p (wait s k) v e
   enter_rule w p s k t i u None v e f c b =
-      ended_at w u v p (wait s k) None e b.0 b.1 (subst (λ z. Derives prog w p (wait s k) z None) (sym c.leaving) (entered_halted w p s k t i c.entered c.left f c.entry c.run))
-  enter_rule w p s k t i u (Some (Exit n)) v e f c b = entered_exiting w p s k t i c.entered c.left u v n e f c.entry c.run c.leaving b
-  enter_rule w p s k t i u (Some (Completed x)) v e f c b = entered w p s k t i c.entered c.left u v (Completed x) e f c.entry c.run c.leaving tt b
-  enter_rule w p s k t i u (Some (Stop n m)) v e f c b = entered w p s k t i c.entered c.left u v (Stop n m) e f c.entry c.run c.leaving tt b
-  enter_rule w p s k t i u (Some (Cut x)) v e f c b = entered w p s k t i c.entered c.left u v (Cut x) e f c.entry c.run c.leaving tt b
+      ended_at w u v p (wait s k) None e b.0 b.1 (subst (λ z. Derives prog w p (wait s k) z None) (sym c.leaving) (entered_halted w p s k t i c.entered c.left f c.stands c.entry c.run))
+  enter_rule w p s k t i u (Some (Exit n)) v e f c b = entered_exiting w p s k t i c.entered c.left u v n e f c.stands c.entry c.run c.leaving b
+  enter_rule w p s k t i u (Some (Completed x)) v e f c b = entered w p s k t i c.entered c.left u v (Completed x) e f c.stands c.entry c.run c.leaving tt b
+  enter_rule w p s k t i u (Some (Stop n m)) v e f c b = entered w p s k t i c.entered c.left u v (Stop n m) e f c.stands c.entry c.run c.leaving tt b
+  enter_rule w p s k t i u (Some (Cut x)) v e f c b = entered w p s k t i c.entered c.left u v (Cut x) e f c.stands c.entry c.run c.leaving tt b
 
-  move_rule : (w : World O) (p : Place) (s : Wait) (k : Said → Prog O I) (m : Move O) (v : World O) (e : Ending) → rise_to (height_of s) p ≡ None → fits s m ≡ true → Moves prog Ruled w p s k m v e → Derives prog w p (wait s k) v e
+  enters_rule : (w : World O) (p : Place) (s : Wait) (k : Said → Prog O I) (t : Path) (i : Entry) (n : Option (Node O)) (v : World O) (e : Ending) → rise_to (height_of s) p ≡ None → w.tree t ≡ n → Enters prog Ruled w p s k t i n v e → Derives prog w p (wait s k) v e
+  enters_rule w p s k t i None v e f g (u, a, b) = unfound w p s k t i u v e f g a b
+  enters_rule w p s k t i (Some n) v e f g (u, o, a, b) = enter_rule w p s k t i u o v e f a b
+
+  move_rule : (w : World O) (p : Place) (s : Wait) (k : Said → Prog O I) (m : Move O) (v : World O) (e : Ending) → rise_to (height_of s) p ≡ None → fits w.tree p s m ≡ true → Moves prog Ruled w p s k m v e → Derives prog w p (wait s k) v e
   move_rule w p s k (Come a) v e f g x = answer_rule w p s k a v e f g x
   move_rule w p s k (Born o b) v e f g (u, t, a) = born w p s k o b u v e f t a
   move_rule w p s k Fall v e f g (u, t, a) = fallen w p s k u v e f t a
-  move_rule w p s k (Enter t i) v e f g (u, o, a, b) = enter_rule w p s k t i u o v e f a b
+  move_rule w p s k (Enter t i) v e f g a = enters_rule w p s k t i (w.tree t) v e f refl a
 
-  fitting_rule : (w : World O) (p : Place) (s : Wait) (k : Said → Prog O I) (m : Move O) (ms : List (Move O)) (l : Bool) (v : World O) (e : Ending) → rise_to (height_of s) p ≡ None → w.moves ≡ m ∷ ms → fits s m ≡ l → Fitting prog Ruled w p s k l m v e → Derives prog w p (wait s k) v e
+  fitting_rule : (w : World O) (p : Place) (s : Wait) (k : Said → Prog O I) (m : Move O) (ms : List (Move O)) (l : Bool) (v : World O) (e : Ending) → rise_to (height_of s) p ≡ None → w.moves ≡ m ∷ ms → fits w.tree p s m ≡ l → Fitting prog Ruled w p s k l m v e → Derives prog w p (wait s k) v e
   fitting_rule w p s k m ms false v e f g h a = halted_at w v p (wait s k) e a (unfit w p s k m ms f g h a.tape)
   fitting_rule w p s k m ms true v e f g h a = move_rule w p s k m v e f h a
 
   wait_rule : (w : World O) (p : Place) (s : Wait) (k : Said → Prog O I) (ms : List (Move O)) (v : World O) (e : Ending) → rise_to (height_of s) p ≡ None → w.moves ≡ ms → Waits prog Ruled w p s k ms v e → Derives prog w p (wait s k) v e
   wait_rule w p s k [] v e f m a = halted_at w v p (wait s k) e a (unanswered w p s k f m a.tape)
-  wait_rule w p s k (m ∷ ms) v e f g a = fitting_rule w p s k m ms (fits s m) v e f g refl a
+  wait_rule w p s k (m ∷ ms) v e f g a = fitting_rule w p s k m ms (fits w.tree p s m) v e f g refl a
 
   ruled : (w : World O) (p : Place) (x : Prog O I) (v : World O) (e : Ending) → Unrolled prog Ruled w p x v e → Derives prog w p x v e
   ruled w p (done c) v e a = ended_at w w v p (done c) (Some (Completed c)) e a.0 a.1 (completed w p c)

@@ -5,19 +5,20 @@ use Rattle.tcl_core.specs.Endings.{Meter, Completion, Reply, refusal}
 use Rattle.tcl_core.specs.Endings.Meter.{Count, Depth}
 use Rattle.tcl_core.specs.Endings.Reply.{Completed, Stop, Exit, Cut}
 use Rattle.tcl_core.specs.Entries.{Entry, Answer, Said}
-use Rattle.tcl_core.specs.Entries.Answer.{Replied, Heard}
-use Rattle.tcl_core.specs.Entries.Said.{Finished, Told}
-use Rattle.tcl_core.specs.Trees.{Tree, Grants, Grant, granted, denied, allowing, What, Event, Move, asked, at_top, where_none, at}
+use Rattle.tcl_core.specs.Entries.Answer.{Replied, Heard, Nobody}
+use Rattle.tcl_core.specs.Entries.Said.{Finished, Told, Missed}
+use Rattle.tcl_core.specs.Trees.{Tree, Grants, Grant, granted, denied, allowing, What, Event, Move, asked, at_top, where_none, at, depth_of, Node}
 use Rattle.tcl_core.specs.Trees.Grant.{Allow, Deny}
 use Rattle.tcl_core.specs.Trees.Grants.{Listed, Budget}
-use Rattle.tcl_core.specs.Trees.What.{Made, Dropped, Charged, Refused, Nested, Out, In, Done, Back}
+use Rattle.tcl_core.specs.Trees.What.{Made, Dropped, Charged, Refused, Nested, Out, In, Done, Back, Unfound}
 use Rattle.tcl_core.specs.Trees.Move.{Born, Fall, Enter, Come}
-use Rattle.tcl_core.specs.Programs.{Deed, spot, Wrap, Wait, Next, Prog, Table, decide, opens, closes}
+use Rattle.tcl_core.specs.Programs.{Deed, spot, Wrap, Wait, Next, Prog, Table, decide, opens, closes, or_lost}
 use Rattle.tcl_core.specs.Programs.Next.{On, TooDeep, Off}
 use Rattle.tcl_core.specs.Programs.Prog.{done, exit, act, go, inside, call, wait}
-use Rattle.tcl_core.specs.Runs.{World, Step, Ending, Run, Halts, Follows, Then, Closes, Acted, Acts, Opened, Opens, Hears, Answered, Leaves, Visits, Returns, Reaches, Calls, Exiting, Exits, Stays, Moves, Fitting, Waits, Unrolled, RunsIn, Runs, carried, reached, entering, fits, ends_call, height_of}
+use Rattle.tcl_core.specs.Runs.{World, Step, Ending, Run, Halts, Follows, Then, Closes, Acted, Acts, Opened, Opens, Hears, Answered, Leaves, Visits, Returns, Reaches, Calls, Exiting, Exits, Stays, Moves, Fitting, Waits, Unrolled, RunsIn, Runs, carried, reached, fits, ends_call, height_of, gone, Enters}
 use Rattle.tcl_core.specs.Laws.{retape, Agrees}
 use Rattle.tcl_core.proofs.Folding.{unroll}
+use Rattle.tcl_core.specs.Endings.Kind.{Full}
 
 module _ {O : Type 0} where
   at_top-inj : (p : Place) (m : Move O) (a b : List (Move O)) → at_top p m a ≡ at_top p m b → a ≡ b
@@ -28,11 +29,15 @@ module _ {O : Type 0} where
   where_none-inj None m a b e = cc
   where_none-inj (Some z) m a b e = e
 
+  enter-inj : (t : Path) (i : Entry) (a b : List (Move O)) → Enter t i ∷ a ≡ Enter t i ∷ b → a ≡ b
+  enter-inj t i a b e = cc
+
   pub asked-inj : (p : Place) (x : What O) (a b : List (Move O)) → asked p x a ≡ asked p x b → a ≡ b
   asked-inj p (In h i) a b e = where_none-inj (rise_to h p) (Enter p i) a b e
   asked-inj p (Back h r) a b e = where_none-inj (rise_to h p) (Come r) a b e
   asked-inj p (Made o s) a b e = at_top-inj p (Born o s) a b e
   asked-inj p Dropped a b e = at_top-inj p Fall a b e
+  asked-inj p (Unfound t i c) a b e = enter-inj t i a b e
   asked-inj p _ a b e = e
 
 listed-inj : (a b : List Grant) (g : Grant) → Listed (g ∷ a) ≡ Listed (g ∷ b) → Listed a ≡ Listed b
@@ -140,13 +145,14 @@ module _ {O I : Type 0} where
     then_same w τ p k None v e y o a b = both_end w τ v e y o None a.0 a.1 b.0 b.1
     then_same w τ p k (Some r) v e y o a b = follows_same w τ p k r v e y o a b
 
-    closes_same : (w : World O) (τ : List (Event O)) (p : Place) (l : Wrap O) (k : Completion → Prog O I) (m : Ending) (v : World O) (e : Ending) (y : World O) (o : Ending) → Closes R w p l k m v e → Closes S (retape w τ) p l k m y o → Agrees w τ v e y o
-    closes_same w τ p l k None v e y o a b = both_end w τ v e y o None a.0 a.1 b.0 b.1
-    closes_same w τ p l k (Some r) v e y o (u, s, a) (z, t, b) =
-        after_step w τ p (closes l (w.tree p)) u z s t v e y o (follows_same u z.tape p k r v e y o a (subst (λ m. Follows S m p k r y o) (same_step w τ p (closes l (w.tree p)) u z s t) b))
+    closes_same : (g : Option (Node O)) (w : World O) (τ : List (Event O)) (p : Place) (l : Wrap O) (k : Completion → Prog O I) (m : Ending) (v : World O) (e : Ending) (y : World O) (o : Ending) → Closes R g w p l k m v e → Closes S g (retape w τ) p l k m y o → Agrees w τ v e y o
+    closes_same g w τ p l k None v e y o a b = both_end w τ v e y o None a.0 a.1 b.0 b.1
+    closes_same g w τ p l k (Some r) v e y o (u, s, a) (z, t, b) =
+        after_step w τ p (closes l g (w.tree p)) u z s t v e y o (follows_same u z.tape p k r v e y o a (subst (λ m. Follows S m p k r y o) (same_step w τ p (closes l g (w.tree p)) u z s t) b))
 
     hears_same : (w : World O) (τ : List (Event O)) (p : Place) (k : Said → Prog O I) (a : Answer) (v : World O) (e : Ending) (y : World O) (o : Ending) → Hears R w p k a v e → Hears S (retape w τ) p k a y o → Agrees w τ v e y o
     hears_same w τ p k (Heard x) v e y o a b = det w τ p (k (Told x)) v e y o a b
+    hears_same w τ p k Nobody v e y o a b = det w τ p (k Missed) v e y o a b
     hears_same w τ p k (Replied (Completed c)) v e y o a b = det w τ p (k (Finished c)) v e y o a b
     hears_same w τ p k (Replied (Stop n m)) v e y o a b = both_end w τ v e y o (Some (Stop n m)) a.0 a.1 b.0 b.1
     hears_same w τ p k (Replied (Exit n)) v e y o a b = both_end w τ v e y o (Some (Exit n)) a.0 a.1 b.0 b.1
@@ -156,9 +162,9 @@ module _ {O I : Type 0} where
     answered_same w τ p h k a v e y o (u, s, b) (z, t, c) =
         after_step w τ p (Back h a) u z s t v e y o (hears_same u z.tape p k a v e y o b (subst (λ m. Hears S m p k a y o) (same_step w τ p (Back h a) u z s t) c))
 
-    returns_same : (w : World O) (τ : List (Event O)) (p : Place) (h : Height) (down : Path) (k : Said → Prog O I) (m : Ending) (v : World O) (e : Ending) (y : World O) (o : Ending) → Returns R w p h down k m v e → Returns S (retape w τ) p h down k m y o → Agrees w τ v e y o
-    returns_same w τ p h down k None v e y o a b = both_end w τ v e y o None a.0 a.1 b.0 b.1
-    returns_same w τ p h down k (Some r) v e y o a b = answered_same w τ p h k (Replied (carried h p down r)) v e y o a b
+    returns_same : (d : ℕ) (w : World O) (τ : List (Event O)) (p : Place) (h : Height) (down : Path) (k : Said → Prog O I) (m : Ending) (v : World O) (e : Ending) (y : World O) (o : Ending) → Returns R d w p h down k m v e → Returns S d (retape w τ) p h down k m y o → Agrees w τ v e y o
+    returns_same d w τ p h down k None v e y o a b = both_end w τ v e y o None a.0 a.1 b.0 b.1
+    returns_same d w τ p h down k (Some r) v e y o a b = answered_same w τ p h k (Replied (carried (gone d w.tree p) h p down r)) v e y o a b
 
     leaves_same : (w : World O) (τ : List (Event O)) (g : Height) (t : Place) (m : Ending) (v y : World O) → Leaves w g t m v → Leaves (retape w τ) g t m y → Agrees w τ v m y m
     leaves_same w τ g t None v y a b = at_once w τ v None y None a b refl
@@ -166,7 +172,7 @@ module _ {O I : Type 0} where
 
     pub visits_same : (w : World O) (τ : List (Event O)) (g : Height) (t : Place) (i : Entry) (v : World O) (e : Ending) (y : World O) (o : Ending) → Visits prog R w g t i v e → Visits prog S (retape w τ) g t i y o → Agrees w τ v e y o
     visits_same w τ g t i v e y o a b =
-        let inner : Agrees w τ a.left e b.left o = step_goes_on w τ t t (In g i) a.entered b.entered (entering prog (w.tree t) i) a.left e b.left o a.entry b.entry a.run b.run in
+        let inner : Agrees w τ a.left e b.left o = step_goes_on w τ t t (In g i) a.entered b.entered (prog.entry i) a.left e b.left o a.entry b.entry a.run b.run in
         let out : Leaves (retape a.left inner.rest) g t e y = subst (λ l. Leaves (retape a.left inner.rest) g t l y) inner.ending (subst (λ l. Leaves l g t o y) inner.world b.leaving) in
         let whole : Agrees w τ v e y e = after_run w τ a.left e b.left o inner v e y e (leaves_same a.left inner.rest g t e v y a.leaving out) in
         subst (λ l. Agrees w τ v e y l) (sym inner.ending) whole
@@ -175,11 +181,11 @@ module _ {O I : Type 0} where
     reaches_same w τ p h down i lost k None v e y o a b = answered_same w τ p h k (Replied (Completed lost)) v e y o a b
     reaches_same w τ p h down i lost k (Some t) v e y o (u, m, a, a2) (z, n, b, b2) =
         let vis : Agrees w τ u m z n = visits_same w τ (Some (length down)) t i u m z n a b in
-        after_run w τ u m z n vis v e y o (returns_same u vis.rest p h down k m v e y o a2
-        (subst (λ l. Returns S (retape u vis.rest) p h down k l y o) vis.ending (subst (λ l. Returns S l p h down k n y o) vis.world b2)))
+        after_run w τ u m z n vis v e y o (returns_same (depth_of (w.tree p)) u vis.rest p h down k m v e y o a2
+        (subst (λ l. Returns S (depth_of (w.tree p)) (retape u vis.rest) p h down k l y o) vis.ending (subst (λ l. Returns S (depth_of (w.tree p)) l p h down k n y o) vis.world b2)))
 
     calls_same : (w : World O) (τ : List (Event O)) (p : Place) (h : Height) (down : Path) (i : Entry) (lost : Completion) (k : Said → Prog O I) (a : Option Place) (v : World O) (e : Ending) (y : World O) (o : Ending) → Calls prog R w p h down i lost k a v e → Calls prog S (retape w τ) p h down i lost k a y o → Agrees w τ v e y o
-    calls_same w τ p h down i lost k None v e y o a b = det w τ p (wait (Some (h, i)) k) v e y o a b
+    calls_same w τ p h down i lost k None v e y o a b = det w τ p (wait (Some (h, i, depth_of (w.tree p))) (or_lost lost k)) v e y o a b
     calls_same w τ p h down i lost k (Some t) v e y o a b = reaches_same w τ p h down i lost k (reached w.tree t down) v e y o a b
 
     exits_same : (w : World O) (τ : List (Event O)) (p : Place) (s : Wait) (n : ℤ) (ms : List (Move O)) (v : World O) (e : Ending) (y : World O) (o : Ending) → Exits w p s n ms v e → Exits (retape w τ) p s n ms y o → Agrees w τ v e y o
@@ -200,14 +206,18 @@ module _ {O I : Type 0} where
     stays_same w τ p s k (Some (Stop n m)) v e y o a b = det w τ p (wait s k) v e y o a b
     stays_same w τ p s k (Some (Cut c)) v e y o a b = det w τ p (wait s k) v e y o a b
 
+    enters_same : (w : World O) (τ : List (Event O)) (p : Place) (s : Wait) (k : Said → Prog O I) (t : Path) (i : Entry) (n : Option (Node O)) (v : World O) (e : Ending) (y : World O) (o : Ending) → Enters prog R w p s k t i n v e → Enters prog S (retape w τ) p s k t i n y o → Agrees w τ v e y o
+    enters_same w τ p s k t i None v e y o (u, a, b) (z, a2, b2) = step_goes_on w τ p [] (Unfound t i (prog.lost t)) u z (wait s k) v e y o a a2 b b2
+    enters_same w τ p s k t i (Some x) v e y o (u, m, a, a2) (z, n, b, b2) =
+        let vis : Agrees w τ u m z n = visits_same w τ None t i u m z n a b in
+        after_run w τ u m z n vis v e y o (stays_same u vis.rest p s k m v e y o a2
+        (subst (λ l. Stays S (retape u vis.rest) p s k l y o) vis.ending (subst (λ l. Stays S l p s k n y o) vis.world b2)))
+
     moves_same : (w : World O) (τ : List (Event O)) (p : Place) (s : Wait) (k : Said → Prog O I) (m : Move O) (v : World O) (e : Ending) (y : World O) (o : Ending) → Moves prog R w p s k m v e → Moves prog S (retape w τ) p s k m y o → Agrees w τ v e y o
     moves_same w τ p s k (Come a) v e y o b c = answered_same w τ p (height_of s) k a v e y o b c
     moves_same w τ p s k (Born x l) v e y o (u, t, a) (z, t2, b) = step_goes_on w τ p [] (Made x l) u z (wait s k) v e y o t t2 a b
     moves_same w τ p s k Fall v e y o (u, t, a) (z, t2, b) = step_goes_on w τ p [] Dropped u z (wait s k) v e y o t t2 a b
-    moves_same w τ p s k (Enter t i) v e y o (u, m, a, a2) (z, n, b, b2) =
-        let vis : Agrees w τ u m z n = visits_same w τ None t i u m z n a b in
-        after_run w τ u m z n vis v e y o (stays_same u vis.rest p s k m v e y o a2
-        (subst (λ l. Stays S (retape u vis.rest) p s k l y o) vis.ending (subst (λ l. Stays S l p s k n y o) vis.world b2)))
+    moves_same w τ p s k (Enter t i) v e y o a b = enters_same w τ p s k t i (w.tree t) v e y o a b
 
     fitting_same : (w : World O) (τ : List (Event O)) (p : Place) (s : Wait) (k : Said → Prog O I) (l : Bool) (m : Move O) (v : World O) (e : Ending) (y : World O) (o : Ending) → Fitting prog R w p s k l m v e → Fitting prog S (retape w τ) p s k l m y o → Agrees w τ v e y o
     fitting_same w τ p s k false m v e y o a b = both_halt w τ v e y o a b
@@ -215,7 +225,7 @@ module _ {O I : Type 0} where
 
     waits_same : (w : World O) (τ : List (Event O)) (p : Place) (s : Wait) (k : Said → Prog O I) (ms : List (Move O)) (v : World O) (e : Ending) (y : World O) (o : Ending) → Waits prog R w p s k ms v e → Waits prog S (retape w τ) p s k ms y o → Agrees w τ v e y o
     waits_same w τ p s k [] v e y o a b = both_halt w τ v e y o a b
-    waits_same w τ p s k (m ∷ ms) v e y o a b = fitting_same w τ p s k (fits s m) m v e y o a b
+    waits_same w τ p s k (m ∷ ms) v e y o a b = fitting_same w τ p s k (fits w.tree p s m) m v e y o a b
 
     acted_same : (w u : World O) (τ : List (Event O)) (p : Place) (k : Tree O → Prog O I) (x : Next) (v : World O) (e : Ending) (y : World O) (o : Ending) → Acted R w u p k x v e → Acted S w (retape u τ) p k x y o → Agrees u τ v e y o
     acted_same w u τ p k (Off r) v e y o a b = both_end u τ v e y o (Some r) a.0 a.1 b.0 b.1
@@ -234,10 +244,10 @@ module _ {O I : Type 0} where
 
     opened_same : (w : World O) (τ : List (Event O)) (p : Place) (l : Wrap O) (i : I) (k : Completion → Prog O I) (x : Next) (v : World O) (e : Ending) (y : World O) (o : Ending) → Opened prog R w p l i k x v e → Opened prog S (retape w τ) p l i k x y o → Agrees w τ v e y o
     opened_same w τ p l i k (Off r) v e y o a b = both_end w τ v e y o (Some r) a.0 a.1 b.0 b.1
-    opened_same w τ p l i k TooDeep v e y o a b = det w τ p (k (refusal Depth)) v e y o a b
+    opened_same w τ p l i k TooDeep v e y o a b = det w τ p (k (refusal (Full Depth))) v e y o a b
     opened_same w τ p l i k On v e y o (u, m, a, a2) (z, n, b, b2) =
         let r : Agrees w τ u m z n = det w τ p (prog.program i) u m z n a b in
-        after_run w τ u m z n r v e y o (closes_same u r.rest p l k m v e y o a2 (subst (λ j. Closes S (retape u r.rest) p l k j y o) r.ending (subst (λ j. Closes S j p l k n y o) r.world b2)))
+        after_run w τ u m z n r v e y o (closes_same (w.tree p) u r.rest p l k m v e y o a2 (subst (λ j. Closes S (w.tree p) (retape u r.rest) p l k j y o) r.ending (subst (λ j. Closes S (w.tree p) j p l k n y o) r.world b2)))
 
     opens_same : (w : World O) (τ : List (Event O)) (p : Place) (x : Option (Deed O)) (l : Wrap O) (i : I) (k : Completion → Prog O I) (v : World O) (e : Ending) (y : World O) (o : Ending) → Opens prog R w p x l i k v e → Opens prog S (retape w τ) p x l i k y o → Agrees w τ v e y o
     opens_same w τ p None l i k v e y o a b = both_halt w τ v e y o a b

@@ -2,27 +2,27 @@
 use Rattle.std.proofs.Common.{sym, ◌≡◌, ℕ, zero, suc, ℤ, ◌+◌, ◌-◌, ◌≤◌, Bool, true, false, nat_le, nat_lt, List, [], ◌∷◌, ◌++◌, Option, Some, None, length, refl, ◌∙◌, ap, subst, arith}
 use Rattle.std.proofs.lemmas.Bool.Decides.{nat_tests}
 use Rattle.tcl_core.specs.Paths.{Path, Place, Height, strip, rise, rise_to, falls, together}
-use Rattle.tcl_core.specs.Endings.{Meter, Completion, Reply}
+use Rattle.tcl_core.specs.Endings.{Meter, Completion, Reply, Kind}
 use Rattle.tcl_core.specs.Endings.Meter.{Count, Depth}
 use Rattle.tcl_core.specs.Endings.Reply.{Completed, Stop, Exit, Cut}
 use Rattle.tcl_core.specs.Endings.Cause.{Above, Over}
 use Rattle.tcl_core.specs.Entries.{Answer}
 use Rattle.tcl_core.specs.Entries.Answer.{Replied}
-use Rattle.tcl_core.specs.Trees.{Grants, Tree, Node, What, Move}
+use Rattle.tcl_core.specs.Trees.{Grants, Tree, Node, What, Move, depth_of}
 use Rattle.tcl_core.specs.Trees.Grant.{Allow, Deny}
 use Rattle.tcl_core.specs.Trees.Grants.{Listed, Budget}
 use Rattle.tcl_core.specs.Trees.What.{Seen, Charged, Refused, Nested, Limited, DepthLimited, Done, Back}
 use Rattle.tcl_core.specs.Trees.Move.{Born, Fall, Enter, Come}
-use Rattle.tcl_core.specs.Programs.{Deed, spot, Act, Wrap, Wait, Next, Prog, Table, decide, opens, closes, changing, making, dropping, dropping_at, metered, by_limit, blocked, is_spent, is_deep}
+use Rattle.tcl_core.specs.Programs.{Deed, spot, Act, Wrap, Wait, Next, Prog, Table, decide, opens, closes, changing, making, dropping, metered, by_limit, blocked, is_spent, is_deep}
 use Rattle.tcl_core.specs.Programs.Next.{On, TooDeep, Off}
 use Rattle.tcl_core.specs.Programs.Act.{Look, Change, Charge, Limit, LimitDepth, Make, Drop}
 use Rattle.tcl_core.specs.Programs.Wrap.{Deeper, Framed}
-use Rattle.tcl_core.specs.Runs.{World, Step, Ending, Halts, Exits, Exiting, carried, lessened, reached, ends_call, height_of}
+use Rattle.tcl_core.specs.Runs.{World, Step, Ending, Halts, Exits, Exiting, carried, lessened, reached, ends_call, height_of, gone, ended, carried_by}
 use Rattle.tcl_core.specs.Rules.{Derives, IsOn}
-use Rattle.tcl_core.specs.Rules.Derives.{completed, exited, acted, refused, unheard, went, passed, halted, wrapped, wrapped_passed, wrapped_halted, too_deep, shut, unheard_inside, called, called_passed, called_halted, unreached, called_out, unanswered, unfit, answered, heard, answered_passed, entered, entered_halted, entered_exiting, born, fallen}
+use Rattle.tcl_core.specs.Rules.Derives.{completed, exited, acted, refused, unheard, went, passed, halted, wrapped, wrapped_passed, wrapped_halted, too_deep, shut, unheard_inside, called, called_passed, called_halted, unreached, called_out, unanswered, unfit, answered, heard, missed, answered_passed, entered, entered_halted, entered_exiting, born, fallen, unfound}
 use Rattle.tcl_core.specs.Laws.{ends_in, raised_in, raised_at, freed, unmoved_by, Unmoved, Obeys, Stopping}
 use Rattle.tcl_core.proofs.PathLaws.{not_both, Some-inj, strip_own, strip-sound, rise_to_within, rise_to_out, rise_to_elsewhere, rise_back}
-use Rattle.tcl_core.proofs.TreeLaws.{metered_here, opens_here, reached_at}
+use Rattle.tcl_core.proofs.TreeLaws.{metered_here, opens_here, reached_at, any_close}
 use Rattle.tcl_core.proofs.Seeing.{rise-measure}
 use Rattle.tcl_core.proofs.RuleLaws.{runs_derived}
 
@@ -67,11 +67,7 @@ module _ {O : Type 0} where
 
   dropping_next : (name : List ℕ) (n : Option (Node O)) → Fits_next (dropping name n).1 (dropping name n).2
   dropping_next name None = λ q. refl
-  dropping_next name (Some n) = go n.depth
-    where
-      go : (d : ℕ) → Fits_next (dropping_at {O = O} name d).1 (dropping_at {O = O} name d).2
-      go zero = λ q. refl
-      go (suc d) = λ q. refl
+  dropping_next name (Some n) = λ q. refl
 
   decide_next : (d : Act O) (T : Tree O) (p : Place) (gs : Grants) (x : Deed O) → decide d T p gs ≡ Some x → Fits_next x.1 x.2
   decide_next Look T p gs x e = next_of (None, Seen, On) x (λ q. refl) e
@@ -134,11 +130,7 @@ module _ {O : Type 0} (c : Place) where
 
   pub dropping_on : (name : List ℕ) (n : Option (Node O)) → (dropping name n).2 ≡ On
   dropping_on name None = refl
-  dropping_on name (Some n) = go n.depth
-    where
-      go : (d : ℕ) → (dropping_at {O = O} name d).2 ≡ On
-      go zero = refl
-      go (suc d) = refl
+  dropping_on name (Some n) = refl
 
   off_here : (d : Act O) (T : Tree O) (p : Place) (gs : Grants) (x : Deed O) (r : Reply) → decide d T p gs ≡ Some x → x.2 ≡ Off r → x.0 ≡ None
   off_here Look T p gs x r e f = on_not (None, Seen, On) x r refl e f
@@ -162,21 +154,15 @@ module _ {O : Type 0} (c : Place) where
       obey w p x u t2 (raised_as p x r u (let k : Fits_next x (Off r) = subst (Fits_next x) g f in k) d) h
 
   -- what a wrap undoes
-  close_quiet : (b : Wrap O) (n : Option (Node O)) (q : Place) → raised_in q (closes b n) ≡ false
-  close_quiet Deeper n q = refl
-  close_quiet (Framed o back) None q = refl
-  close_quiet (Framed o back) (Some n) q = refl
+  close_quiet : (b : Wrap O) (m n : Option (Node O)) (q : Place) → raised_in q (closes b m n) ≡ false
+  close_quiet b m n q = any_close (λ x. raised_in q x ≡ false) b m n refl refl (λ o. refl)
 
-  close_unmoved : (b : Wrap O) (n : Option (Node O)) (s : Option Place) (t : Type 0) → t → unmoved_by s (closes b n) t
-  close_unmoved Deeper n None t a = a
-  close_unmoved Deeper n (Some q) t a = a
-  close_unmoved (Framed o back) None None t a = a
-  close_unmoved (Framed o back) None (Some q) t a = a
-  close_unmoved (Framed o back) (Some n) None t a = a
-  close_unmoved (Framed o back) (Some n) (Some q) t a = a
+  close_unmoved : (b : Wrap O) (m n : Option (Node O)) (s : Option Place) (t : Type 0) → t → unmoved_by s (closes b m n) t
+  close_unmoved b m n None t a = any_close (λ x. unmoved_by None x t) b m n a a (λ o. a)
+  close_unmoved b m n (Some q) t a = any_close (λ x. unmoved_by (Some q) x t) b m n a a (λ o. a)
 
-  close_demand : (w : World O) (p : Place) (b : Wrap O) (u : World O) (e : Ending) → Step w p (closes b (w.tree p)) u → Demand p e u → Demand p e w
-  close_demand w p b u e s d q r f g h = subst (Unmoved c) (sym s.tape) (close_unmoved b (w.tree p) (strip c p) (Unmoved c u.tape) (d q r f g h))
+  close_demand : (n : Option (Node O)) (w : World O) (p : Place) (b : Wrap O) (u : World O) (e : Ending) → Step w p (closes b n (w.tree p)) u → Demand p e u → Demand p e w
+  close_demand n w p b u e s d q r f g h = subst (Unmoved c) (sym s.tape) (close_unmoved b n (w.tree p) (strip c p) (Unmoved c u.tape) (d q r f g h))
 
   back_unmoved : (w : World O) (p : Place) (h : Height) (a : Answer) (u : World O) → Step w p (Back h a) u → Unmoved c u.tape → Unmoved c w.tape
   back_unmoved w p h a u s t = subst (Unmoved c) (sym s.tape) (by (strip c p))
@@ -203,22 +189,33 @@ module _ {O : Type 0} (c : Place) where
   none_demand p v q r e g k = absurd (not_both refl g)
 
 -- a stop that names c or one above it does so for the caller too
-carried_stop : (q q2 b down : Place) (h : ℕ) (p : Place) (n : ℕ) (m : Meter) → length q ≡ length b + h → length q2 ≡ length b + length down → nat_le (length q2) n ≡ true → ends_in q (carried (Some h) p down (Stop n m)) ≡ true
+carried_stop : (q q2 b down : Place) (h : ℕ) (p : Place) (n : ℕ) (m : Kind) → length q ≡ length b + h → length q2 ≡ length b + length down → nat_le (length q2) n ≡ true → ends_in q (carried_by (Stop n m) (Some h) p down) ≡ true
 carried_stop q q2 b down h p n m e f g =
     let l : length q2 ≤ n = grind (arith, nat_tests) in
     let x : nat_lt (n + together (falls h p) down) (length down) ≡ false = grind (arith, nat_tests) in
     ap (λ y. ends_in q (lessened y (n + h - length down) m)) x ∙ grind (arith, nat_tests)
 
-carried_ends : (q q2 b down : Place) (h : ℕ) (p : Place) (r : Reply) → length q ≡ length b + h → length q2 ≡ length b + length down → ends_in q2 r ≡ true → ends_in q (carried (Some h) p down r) ≡ true
-carried_ends q q2 b down h p (Completed x) e f g = bad g
-carried_ends q q2 b down h p (Exit x) e f g = bad g
-carried_ends q q2 b down h p (Cut x) e f g = refl
-carried_ends q q2 b down h p (Stop n m) e f g = carried_stop q q2 b down h p n m e f g
+carried_by_ends : (q q2 b down : Place) (h : ℕ) (p : Place) (r : Reply) → length q ≡ length b + h → length q2 ≡ length b + length down → ends_in q2 r ≡ true → ends_in q (carried_by r (Some h) p down) ≡ true
+carried_by_ends q q2 b down h p (Completed x) e f g = bad g
+carried_by_ends q q2 b down h p (Exit x) e f g = bad g
+carried_by_ends q q2 b down h p (Cut x) e f g = refl
+carried_by_ends q q2 b down h p (Stop n m) e f g = carried_stop q q2 b down h p n m e f g
 
-caller_ends : (c p a : Place) (h : Height) (down q2 b : Place) (r : Reply) → rise_to h p ≡ Some a → strip c (a ++ down) ≡ Some q2 → rise_to (Some (length down)) q2 ≡ Some b → ends_in q2 r ≡ true →
-    (q : Place) × (strip c p ≡ Some q) × (ends_in q (carried h p down r) ≡ true)
-caller_ends c p a None down q2 b r e f g k = absurd (not_both refl e)
-caller_ends c p a (Some h) down q2 b r e f g k = here (strip c p) refl
+ended_ends : (q : Place) (g : Option ℕ) (r : Reply) → ends_in q r ≡ true → ends_in q (ended g r) ≡ true
+ended_ends q g (Completed x) e = bad e
+ended_ends q g (Exit x) e = bad e
+ended_ends q None (Cut x) e = refl
+ended_ends q (Some g) (Cut x) e = refl
+ended_ends q None (Stop n m) e = e
+ended_ends q (Some g) (Stop n m) e = e
+
+carried_ends : (q q2 b down : Place) (y : Option ℕ) (h : ℕ) (p : Place) (r : Reply) → length q ≡ length b + h → length q2 ≡ length b + length down → ends_in q2 r ≡ true → ends_in q (carried y (Some h) p down r) ≡ true
+carried_ends q q2 b down y h p r e f g = ended_ends q y (carried_by r (Some h) p down) (carried_by_ends q q2 b down h p r e f g)
+
+caller_ends : (y : Option ℕ) (c p a : Place) (h : Height) (down q2 b : Place) (r : Reply) → rise_to h p ≡ Some a → strip c (a ++ down) ≡ Some q2 → rise_to (Some (length down)) q2 ≡ Some b → ends_in q2 r ≡ true →
+    (q : Place) × (strip c p ≡ Some q) × (ends_in q (carried y h p down r) ≡ true)
+caller_ends y c p a None down q2 b r e f g k = absurd (not_both refl e)
+caller_ends y c p a (Some h) down q2 b r e f g k = here (strip c p) refl
   where
     top : a ≡ c ++ b
     top = Some-inj a (sym (rise_back a down) ∙ ap (rise (length down)) (strip-sound c (a ++ down) q2 f) ∙ rise_to_within c q2 (Some (length down)) b g)
@@ -226,26 +223,26 @@ caller_ends c p a (Some h) down q2 b r e f g k = here (strip c p) refl
     in_c : strip c a ≡ Some b
     in_c = ap (strip c) top ∙ strip_own c b
 
-    risen : (q : Place) → strip c p ≡ Some q → (o : Option Place) → rise_to (Some h) q ≡ o → (q : Place) × (strip c p ≡ Some q) × (ends_in q (carried (Some h) p down r) ≡ true)
+    risen : (q : Place) → strip c p ≡ Some q → (o : Option Place) → rise_to (Some h) q ≡ o → (q : Place) × (strip c p ≡ Some q) × (ends_in q (carried y (Some h) p down r) ≡ true)
     risen q j None l = absurd (not_both (rise_to_out c q (Some h) a l (subst (λ z. rise_to (Some h) z ≡ Some a) (strip-sound c p q j) e)) in_c)
     risen q j (Some b2) l =
         let same : c ++ b2 ≡ c ++ b = Some-inj (c ++ b2) (sym (rise_to_within c q (Some h) b2 l) ∙ subst (λ z. rise_to (Some h) z ≡ Some a) (strip-sound c p q j) e ∙ ap Some top) in
         let b_same : b2 ≡ b = Some-inj b2 (sym (strip_own c b2) ∙ ap (strip c) same ∙ strip_own c b) in
         let m1 : length q ≡ length b2 + h = rise-measure h q b2 l in
         let m2 : length q2 ≡ length b + length down = rise-measure (length down) q2 b g in
-        (q, j, carried_ends q q2 b down h p r (m1 ∙ ap (λ z. length z + h) b_same) m2 k)
+        (q, j, carried_ends q q2 b down y h p r (m1 ∙ ap (λ z. length z + h) b_same) m2 k)
 
-    here : (o : Option Place) → strip c p ≡ o → (q : Place) × (strip c p ≡ Some q) × (ends_in q (carried (Some h) p down r) ≡ true)
+    here : (o : Option Place) → strip c p ≡ o → (q : Place) × (strip c p ≡ Some q) × (ends_in q (carried y (Some h) p down r) ≡ true)
     here None j = absurd (not_both (rise_to_elsewhere c p (Some h) a j e) in_c)
     here (Some q) j = risen q j (rise_to (Some h) q) refl
 
 module _ {O I : Type 0} (c : Place) (prog : Table O I) where
   -- what a call's entry is asked for, where its caller goes on, or ends so
   call_demand : (p a t : Place) (h : Height) (down : Path) (u : World O) (left told : World O) (r : Reply) → rise_to h p ≡ Some a → reached u.tree a down ≡ Some t → Step left t (Done (Some (length down)) r) told →
-      ((q : Place) → strip c p ≡ Some q → ends_in q (carried h p down r) ≡ true → Unmoved c told.tape) → Demand c t (Some r) left
+      ((q : Place) → strip c p ≡ Some q → ends_in q (carried (gone (depth_of (u.tree p)) told.tree p) h p down r) ≡ true → Unmoved c told.tape) → Demand c t (Some r) left
   call_demand p a t h down u left told r e f s g =
       done_demand c left t (Some (length down)) r told s (λ q2 b j k l.
-      let m : (q : Place) × (strip c p ≡ Some q) × (ends_in q (carried h p down r) ≡ true) = caller_ends c p a h down q2 b r e (subst (λ z. strip c z ≡ Some q2) (reached_at (u.tree (a ++ down)) t (a ++ down) f) j) k l in
+      let m : (q : Place) × (strip c p ≡ Some q) × (ends_in q (carried (gone (depth_of (u.tree p)) told.tree p) h p down r) ≡ true) = caller_ends (gone (depth_of (u.tree p)) told.tree p) c p a h down q2 b r e (subst (λ z. strip c z ≡ Some q2) (reached_at (u.tree (a ++ down)) t (a ++ down) f) j) k l in
       g m.0 m.1 m.2)
 
   exits_obey : (w : World O) (p : Place) (s : Wait) (n : ℤ) (ms : List (Move O)) (v : World O) (e : Ending) → Exits w p s n ms v e → Obeys c v.tape → Obeys c w.tape
@@ -279,10 +276,10 @@ module _ {O I : Type 0} (c : Place) (prog : Table O I) where
   stopping_derived (halted w p i k u a) d h = stopping_derived a d h
   stopping_derived (wrapped w p b i k x inner left closed v y e g on s a t z) d h =
       obey_quiet c w (spot p x.0) x.1 inner s (on_quiet x.1 x.2 (subst IsOn (sym on) tt) (opens_next b w.tree p w.grants x g))
-      (stopping_derived a (no_demand c p y left) (obey_quiet c left p (closes b (left.tree p)) closed t (close_quiet c b (left.tree p)) (stopping_derived z d h)))
+      (stopping_derived a (no_demand c p y left) (obey_quiet c left p (closes b (inner.tree p) (left.tree p)) closed t (close_quiet c b (inner.tree p) (left.tree p)) (stopping_derived z d h)))
   stopping_derived (wrapped_passed w p b i k x inner left closed r q g on s a t) d h =
       obey_quiet c w (spot p x.0) x.1 inner s (on_quiet x.1 x.2 (subst IsOn (sym on) tt) (opens_next b w.tree p w.grants x g))
-      (stopping_derived a (close_demand c left p b closed (Some r) t d) (obey_quiet c left p (closes b (left.tree p)) closed t (close_quiet c b (left.tree p)) h))
+      (stopping_derived a (close_demand c (inner.tree p) left p b closed (Some r) t d) (obey_quiet c left p (closes b (inner.tree p) (left.tree p)) closed t (close_quiet c b (inner.tree p) (left.tree p)) h))
   stopping_derived (wrapped_halted w p b i k x inner left g on s a) d h =
       obey_quiet c w (spot p x.0) x.1 inner s (on_quiet x.1 x.2 (subst IsOn (sym on) tt) (opens_next b w.tree p w.grants x g)) (stopping_derived a d h)
   stopping_derived (too_deep w p b i k x u v e g deep s a) d h =
@@ -292,7 +289,7 @@ module _ {O I : Type 0} (c : Place) (prog : Table O I) where
   stopping_derived (called w p h down i lost k a t out inner left told back v r y e g s1 j s2 x s3 so s4 b) d f =
       obey_quiet c w p _ out s1 (λ q. refl) (obey_quiet c out t _ inner s2 (λ q. refl)
       (stopping_derived x (call_demand p a t h down out left told r g j s3 (λ q l m. bad (ap (ends_in q) (sym so) ∙ m)))
-      (obey_quiet c left t _ told s3 (λ q. refl) (back_obeys told p h _ back s4 (λ q z l m n. bad (ap (ends_in q) (sym so ∙ Some-inj (carried h p down r) m) ∙ n)) (stopping_derived b d f)))))
+      (obey_quiet c left t _ told s3 (λ q. refl) (back_obeys told p h _ back s4 (λ q z l m n. bad (ap (ends_in q) (sym so ∙ Some-inj (carried (gone (depth_of (out.tree p)) told.tree p) h p down r) m) ∙ n)) (stopping_derived b d f)))))
   stopping_derived (called_passed w p h down i lost k a t out inner left told back r g s1 j s2 x s3 q s4) d f =
       obey_quiet c w p _ out s1 (λ q. refl) (obey_quiet c out t _ inner s2 (λ q. refl)
       (stopping_derived x (call_demand p a t h down out left told r g j s3 (λ z l m. back_unmoved c told p h _ back s4 (d z _ l refl m)))
@@ -304,13 +301,15 @@ module _ {O I : Type 0} (c : Place) (prog : Table O I) where
   stopping_derived (unfit w p s k m ms g j l t) d h = h
   stopping_derived (answered w p s k y u v e g j t a) d h = obey_quiet c w p _ u t (λ q. refl) (stopping_derived a d h)
   stopping_derived (heard w p s k y u v e g j t a) d h = obey_quiet c w p _ u t (λ q. refl) (stopping_derived a d h)
+  stopping_derived (missed w p s k u v e g j t a) d h = obey_quiet c w p _ u t (λ q. refl) (stopping_derived a d h)
   stopping_derived (answered_passed w p s k r u q g j t) d h = back_obeys w p (height_of s) r u t d h
-  stopping_derived (entered w p s k t i inner left told v r e g s1 a s2 n b) d h =
+  stopping_derived (entered w p s k t i inner left told v r e g here s1 a s2 n b) d h =
       obey_quiet c w t _ inner s1 (λ q. refl) (stopping_derived a (done_demand c left t None r told s2 (λ q z l m n2. absurd (not_both refl m))) (obey_quiet c left t _ told s2 (λ q. refl) (stopping_derived b d h)))
-  stopping_derived (entered_halted w p s k t i inner left g s1 a) d h = obey_quiet c w t _ inner s1 (λ q. refl) (stopping_derived a (none_demand c t left) h)
-  stopping_derived (entered_exiting w p s k t i inner left told v n e g s1 a s2 b) d h =
+  stopping_derived (entered_halted w p s k t i inner left g here s1 a) d h = obey_quiet c w t _ inner s1 (λ q. refl) (stopping_derived a (none_demand c t left) h)
+  stopping_derived (entered_exiting w p s k t i inner left told v n e g here s1 a s2 b) d h =
       obey_quiet c w t _ inner s1 (λ q. refl) (stopping_derived a (exit_demand c t n left) (obey_quiet c left t _ told s2 (λ q. refl) (exits_obey told p s n told.moves v e b h)))
   stopping_derived (born w p s k o b u v e g t a) d h = obey_quiet c w [] _ u t (λ q. refl) (stopping_derived a d h)
+  stopping_derived (unfound w p s k t i u v e g here b a) d h = obey_quiet c w [] _ u b (λ q. refl) (stopping_derived a d h)
   stopping_derived (fallen w p s k u v e g t a) d h = obey_quiet c w [] _ u t (λ q. refl) (stopping_derived a d h)
 
 module _ {O I : Type 0} where

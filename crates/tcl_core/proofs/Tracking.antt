@@ -1,26 +1,26 @@
 -- Where control is: in a subtree, or outside it.
 use Rattle.std.proofs.Common.{sym, ◌≡◌, ℕ, ℤ, Bool, true, false, List, [], ◌∷◌, ◌++◌, Option, Some, None, length, refl, ◌∙◌, ap, subst, append_assoc}
 use Rattle.tcl_core.specs.Paths.{Path, Place, Height, strip, rise_to}
-use Rattle.tcl_core.specs.Endings.{Reply}
+use Rattle.tcl_core.specs.Endings.{Reply, Completion}
 use Rattle.tcl_core.specs.Endings.Reply.{Exit}
 use Rattle.tcl_core.specs.Entries.{Entry, Answer}
 use Rattle.tcl_core.specs.Entries.Answer.{Replied}
-use Rattle.tcl_core.specs.Trees.{Grants, Tree, What, Event, Move}
-use Rattle.tcl_core.specs.Trees.What.{Made, Dropped, Out, In, Done, Back}
+use Rattle.tcl_core.specs.Trees.{Grants, Tree, What, Event, Move, Node}
+use Rattle.tcl_core.specs.Trees.What.{Made, Dropped, Out, In, Done, Back, Unfound}
 use Rattle.tcl_core.specs.Trees.Move.{Born, Fall, Enter, Come}
-use Rattle.tcl_core.specs.Programs.{Deed, spot, Act, Wrap, Wait, Prog, Table, decide, opens, closes}
+use Rattle.tcl_core.specs.Programs.{Deed, spot, Act, Wrap, Wait, Prog, Table, decide, opens, closes, Calls_only}
 use Rattle.tcl_core.specs.Programs.Prog.{done, exit, act, go, inside, call, wait}
 use Rattle.tcl_core.specs.Programs.{Calls_only}
 use Rattle.tcl_core.specs.Runs.{World, Step, Ending, Halts, Exits, Exiting, reached, ends_call, height_of}
 use Rattle.tcl_core.specs.Rules.{Derives}
-use Rattle.tcl_core.specs.Rules.Derives.{completed, exited, acted, refused, unheard, went, passed, halted, wrapped, wrapped_passed, wrapped_halted, too_deep, shut, unheard_inside, called, called_passed, called_halted, unreached, called_out, unanswered, unfit, answered, heard, answered_passed, entered, entered_halted, entered_exiting, born, fallen}
+use Rattle.tcl_core.specs.Rules.Derives.{completed, exited, acted, refused, unheard, went, passed, halted, wrapped, wrapped_passed, wrapped_halted, too_deep, shut, unheard_inside, called, called_passed, called_halted, unreached, called_out, unanswered, unfit, answered, heard, missed, answered_passed, entered, entered_halted, entered_exiting, born, fallen, unfound}
 use Rattle.tcl_core.specs.Laws.{Turn, comes_in, goes_out, life_at, turn_in, turn_at, turn}
 use Rattle.tcl_core.specs.Laws.Turn.{Enters, Leaves, Inside, Elsewhere, Life}
 use Rattle.tcl_core.proofs.PathLaws.{not_both, Some-inj, strip_own, strip-sound, child_in, rise_to_within, rise_to_out, rise_to_elsewhere, rise_to_past, rise_into, rise_back}
 use Rattle.tcl_core.proofs.TreeLaws.{IsLife, elsewhere_life, opens_here, reached_at, spot_in}
 use Rattle.tcl_core.proofs.Subtrees.{top_only}
 use Rattle.tcl_core.proofs.Plain.{IsPlain, decide_plain, opens_plain, closes_plain}
-use Rattle.tcl_core.proofs.Callers.{Fits, fit, entering_calls}
+use Rattle.tcl_core.proofs.Callers.{Fits, fit, or_lost_all}
 use Rattle.tcl_core.proofs.Halts.{halted_tape}
 
 abbrev pub is_in : Option Place → Bool
@@ -104,6 +104,7 @@ module _ {O : Type 0} (c : Place) where
   plain_inside q (Done h i) f g t = absurd g
   plain_inside q (Out h d i) f g t = absurd g
   plain_inside q (Back h i) f g t = absurd g
+  plain_inside q (Unfound t2 i y) f g t = absurd g
   plain_inside [] (Made o s) f g t = t
   plain_inside (y ∷ q) (Made o s) f g t = (refl, t)
   plain_inside [] Dropped f g t = t
@@ -139,8 +140,8 @@ module _ {O : Type 0} (c : Place) where
   open_here : (w : World O) (p : Place) (b : Wrap O) (x : Deed O) (u : World O) → opens b w.tree p w.grants ≡ Some x → Step w (spot p x.0) x.1 u → Here u p → Here w p
   open_here w p b x u g s h = plain_here w p x.0 x.1 u (opens_plain b w.tree p w.grants x g) (λ q e f. absurd (not_both e (subst (λ l. strip c (spot p l) ≡ Some q) (opens_here b w.tree p w.grants x g) f))) s h
 
-  close_here : (w : World O) (p : Place) (b : Wrap O) (u : World O) → Step w p (closes b (w.tree p)) u → Here u p → Here w p
-  close_here w p b u s h = plain_here w p None (closes b (w.tree p)) u (closes_plain b (w.tree p)) (λ q e f. absurd (not_both e f)) s h
+  close_here : (n : Option (Node O)) (w : World O) (p : Place) (b : Wrap O) (u : World O) → Step w p (closes b n (w.tree p)) u → Here u p → Here w p
+  close_here n w p b u s h = plain_here w p None (closes b n (w.tree p)) u (closes_plain b n (w.tree p)) (λ q e f. absurd (not_both e f)) s h
 
   out_here : (w : World O) (p : Place) (h : Height) (down : Path) (i : Entry) (u : World O) → Step w p (Out h down i) u → Tracked c u.tape (gone (strip c p) h) → Here w p
   out_here w p h down i u s t = turned w p (Out h down i) u (is_in (strip c p)) s (by (strip c p) t)
@@ -242,6 +243,14 @@ module _ {O I : Type 0} (top : Place) (prog : Table O I) where
       by None e = (refl, t)
       by (Some q) e = life_elsewhere top q x (Tracked top u.tape) (top_only top q e) l t
 
+  -- an entry that finds nobody leaves control outside
+  unfound_here : (w : World O) (t : Path) (i : Entry) (y : Completion) (u : World O) → Step w [] (Unfound t i y) u → Tracked top u.tape false → Tracked top w.tape false
+  unfound_here w t i y u s j = turned top w [] (Unfound t i y) u false s (by (strip top []) refl)
+    where
+      by : (o : Option Place) → strip top [] ≡ o → Turned (Tracked top u.tape) (turn_at {O = O} o (Unfound t i y)) false
+      by None e = (refl, j)
+      by (Some q) e = subst (λ r. Turned (Tracked top u.tape) (life_at r) false) (sym (top_only top q e)) j
+
   pub track : {w : World O} {p : Place} {x : Prog O I} {v : World O} {e : Ending} → Derives prog w p x v e → Fits x → Here top v p → Control w p x
   track (completed w p c) f h = h
   track (exited w p n) f h = h
@@ -252,37 +261,39 @@ module _ {O I : Type 0} (top : Place) (prog : Table O I) where
   track (passed w p i k u r q a) f h = control_here w p _ (prog.programs_call i) (track a (fit _ (prog.programs_call i)) h)
   track (halted w p i k u a) f h = control_here w p _ (prog.programs_call i) (track a (fit _ (prog.programs_call i)) h)
   track (wrapped w p b i k x inner left closed v c e g on s a t d) f h =
-      open_here top w p b x inner g s (control_here inner p _ (prog.programs_call i) (track a (fit _ (prog.programs_call i)) (close_here top left p b closed t (control_here closed p _ (f c) (track d (fit _ (f c)) h)))))
+      open_here top w p b x inner g s (control_here inner p _ (prog.programs_call i) (track a (fit _ (prog.programs_call i)) (close_here top (inner.tree p) left p b closed t (control_here closed p _ (f c) (track d (fit _ (f c)) h)))))
   track (wrapped_passed w p b i k x inner left closed r q g on s a t) f h =
-      open_here top w p b x inner g s (control_here inner p _ (prog.programs_call i) (track a (fit _ (prog.programs_call i)) (close_here top left p b closed t h)))
+      open_here top w p b x inner g s (control_here inner p _ (prog.programs_call i) (track a (fit _ (prog.programs_call i)) (close_here top (inner.tree p) left p b closed t h)))
   track (wrapped_halted w p b i k x inner left g on s a) f h = open_here top w p b x inner g s (control_here inner p _ (prog.programs_call i) (track a (fit _ (prog.programs_call i)) h))
   track (too_deep w p b i k x u v e g deep s a) f h = open_here top w p b x u g s (control_here u p _ (f _) (track a (fit _ (f _)) h))
   track (shut w p b i k x r u g off s) f h = open_here top w p b x u g s h
   track (unheard_inside w p b i k g t) f h = h
   track (called w p h down i lost k a t out inner left told back v r c e g s1 j s2 x s3 so s4 b) f n =
       out_here top w p h down i out s1 (visit_here out inner left told (Some (length down)) t i r (gone (strip top p) h) (called_comes out p a t h down g j) s2
-      (λ l. control_here inner t _ (entering_calls prog (out.tree t) i) (track x (fit _ (entering_calls prog (out.tree t) i)) l)) s3
+      (λ l. control_here inner t _ (prog.entries_call i) (track x (fit _ (prog.entries_call i)) l)) s3
       (back_here top told p h _ back s4 (control_here back p _ (f _) (track b (fit _ (f _)) n))))
   track (called_passed w p h down i lost k a t out inner left told back r g s1 j s2 x s3 q s4) f n =
       out_here top w p h down i out s1 (visit_here out inner left told (Some (length down)) t i r (gone (strip top p) h) (called_comes out p a t h down g j) s2
-      (λ l. control_here inner t _ (entering_calls prog (out.tree t) i) (track x (fit _ (entering_calls prog (out.tree t) i)) l)) s3 (back_here top told p h _ back s4 n))
+      (λ l. control_here inner t _ (prog.entries_call i) (track x (fit _ (prog.entries_call i)) l)) s3 (back_here top told p h _ back s4 n))
   track (called_halted w p h down i lost k a t out inner left g s1 j s2 x) f n =
       out_here top w p h down i out s1 (in_here top out t (Some (length down)) i inner (gone (strip top p) h) (called_comes out p a t h down g j) s2
-      (control_here inner t _ (entering_calls prog (out.tree t) i) (track x (fit _ (entering_calls prog (out.tree t) i)) (no_tape left _ (halted_tape prog x refl)))))
+      (control_here inner t _ (prog.entries_call i) (track x (fit _ (prog.entries_call i)) (no_tape left _ (halted_tape prog x refl)))))
   track (unreached w p h down i lost k a out back v e g s1 j s2 x) f n = out_here top w p h down i out s1 (back_here top out p h _ back s2 (control_here back p _ (f _) (track x (fit _ (f _)) n)))
-  track (called_out w p h down i lost k u v e g s a) f n = out_here top w p h down i u s (track a f n)
+  track (called_out w p h down i lost k u v e g s a) f n = out_here top w p h down i u s (track a (or_lost_all Calls_only lost k f) n)
   track (unanswered w p s k g m t) f h = no_tape w _ t
   track (unfit w p s k m ms g j l t) f h = no_tape w _ t
   track (answered w p s k c u v e g j t a) f h = back_here top w p (height_of s) _ u t (control_here u p _ (f _) (track a (fit _ (f _)) h))
   track (heard w p s k y u v e g j t a) f h = back_here top w p (height_of s) _ u t (control_here u p _ (f _) (track a (fit _ (f _)) h))
+  track (missed w p s k u v e g j t a) f h = back_here top w p (height_of s) _ u t (control_here u p _ (f _) (track a (fit _ (f _)) h))
   track (answered_passed w p s k r u q g j t) f h = back_here top w p (height_of s) _ u t h
-  track (entered w p s k t i inner left told v r e g s1 a s2 n b) f h =
-      waits_out w p s g (visit_here w inner left told None t i r false (outer_comes top t) s1 (λ l. control_here inner t _ (entering_calls prog (w.tree t) i) (track a (fit _ (entering_calls prog (w.tree t) i)) l)) s2 (waits_in told p s g (track b f h)))
-  track (entered_halted w p s k t i inner left g s1 a) f h =
-      waits_out w p s g (in_here top w t None i inner false (outer_comes top t) s1 (control_here inner t _ (entering_calls prog (w.tree t) i) (track a (fit _ (entering_calls prog (w.tree t) i)) (no_tape left _ (halted_tape prog a refl)))))
-  track (entered_exiting w p s k t i inner left told v n e g s1 a s2 b) f h =
-      waits_out w p s g (visit_here w inner left told None t i (Exit n) false (outer_comes top t) s1 (λ l. control_here inner t _ (entering_calls prog (w.tree t) i) (track a (fit _ (entering_calls prog (w.tree t) i)) l)) s2 (waits_in told p s g (exits_here top told p s n told.moves v e b h)))
+  track (entered w p s k t i inner left told v r e g here s1 a s2 n b) f h =
+      waits_out w p s g (visit_here w inner left told None t i r false (outer_comes top t) s1 (λ l. control_here inner t _ (prog.entries_call i) (track a (fit _ (prog.entries_call i)) l)) s2 (waits_in told p s g (track b f h)))
+  track (entered_halted w p s k t i inner left g here s1 a) f h =
+      waits_out w p s g (in_here top w t None i inner false (outer_comes top t) s1 (control_here inner t _ (prog.entries_call i) (track a (fit _ (prog.entries_call i)) (no_tape left _ (halted_tape prog a refl)))))
+  track (entered_exiting w p s k t i inner left told v n e g here s1 a s2 b) f h =
+      waits_out w p s g (visit_here w inner left told None t i (Exit n) false (outer_comes top t) s1 (λ l. control_here inner t _ (prog.entries_call i) (track a (fit _ (prog.entries_call i)) l)) s2 (waits_in told p s g (exits_here top told p s n told.moves v e b h)))
   track (born w p s k o b u v e g t a) f h = waits_out w p s g (life_here w (Made o b) u tt t (waits_in u p s g (track a f h)))
+  track (unfound w p s k t i u v e g here b a) f h = waits_out w p s g (unfound_here w t i (prog.lost t) u b (waits_in u p s g (track a f h)))
   track (fallen w p s k u v e g t a) f h = waits_out w p s g (life_here w Dropped u tt t (waits_in u p s g (track a f h)))
 
 -- along the tape

@@ -7,15 +7,15 @@ use Rattle.tcl_core.specs.Endings.{Meter, Reply}
 use Rattle.tcl_core.specs.Endings.Meter.{Count, Depth}
 use Rattle.tcl_core.specs.Endings.Reply.{Cut}
 use Rattle.tcl_core.specs.Endings.Cause.{Above, Over}
-use Rattle.tcl_core.specs.Trees.{Event, Grant, Grants, granted, denied, allowing, Node, Tree, What, at, effect, at_end, where_some, on_node, on_line, on_subtree, with_own, with_limit, with_depth_limit, counted, deeper, shallower, fresh, seen_reply, seen_what}
+use Rattle.tcl_core.specs.Trees.{Event, Grant, Grants, granted, denied, allowing, Node, Tree, What, at, effect, at_end, where_some, on_node, on_line, on_subtree, with_own, with_limit, with_depth_limit, counted, deeper, shallower, fresh, seen_reply, seen_what, depth_of}
 use Rattle.tcl_core.specs.Trees.Grant.{Allow, Deny}
 use Rattle.tcl_core.specs.Trees.Grants.{Listed, Budget}
 use Rattle.tcl_core.specs.Trees.What.{Seen, Changed, Charged, Refused, Nested, Unnested, Limited, DepthLimited, Made, Dropped}
-use Rattle.tcl_core.specs.Programs.{Wrap, Next, Deed, spot, Act, decide, opens, closes, changing, making, dropping, dropping_at, either, metered, by_limit, blocked, full_at, nearer, is_spent, is_deep}
+use Rattle.tcl_core.specs.Programs.{Wrap, Next, Deed, spot, Act, decide, opens, closes, changing, making, dropping, either, metered, by_limit, blocked, full_at, nearer, is_spent, is_deep, brought_back}
 use Rattle.tcl_core.specs.Programs.Next.{On, TooDeep, Off}
 use Rattle.tcl_core.specs.Programs.Act.{Look, Change, Charge, Limit, LimitDepth, Make, Drop}
 use Rattle.tcl_core.specs.Programs.Wrap.{Deeper, Framed}
-use Rattle.tcl_core.specs.Runs.{World, Step, where_stands}
+use Rattle.tcl_core.specs.Runs.{World, Step, where_stands, reached}
 use Rattle.tcl_core.specs.Views.{grants_of, moves_of, kept, view, inside_of, from_above}
 use Rattle.tcl_core.proofs.PathLaws.{strip-sound, beside, not_both, Some-inj, strip-append, strip_own, apart, at_end-apart, seen_past, seen_near}
 
@@ -183,11 +183,7 @@ module _ {O : Type 0} where
 
   seen_dropping : (q : Place) (name : List ℕ) (n : Option (Node O)) → seen_deed q (dropping name n) ≡ dropping name n
   seen_dropping q name None = refl
-  seen_dropping q name (Some n) = go n.depth
-    where
-      go : (d : ℕ) → seen_deed {O = O} q (dropping_at name d) ≡ dropping_at name d
-      go zero = refl
-      go (suc d) = refl
+  seen_dropping q name (Some n) = refl
 
   -- an act of a subtree is decided by the subtree, and by what it is handed
   pub decide_within : (c q : Place) (a : Act O) (T : Tree O) (ds : Grants) (x : Deed O) (gs : List Grant) → decide a T (c ++ q) ds ≡ Some x →
@@ -228,10 +224,24 @@ module _ {O : Type 0} where
   opens_none c q Deeper T ds e = metered_none Depth Nested (blocked is_deep (at T c) q) (blocked is_deep T (c ++ q)) ds (blocked_within is_deep c q T) e
   opens_none c q (Framed o back) T ds e = absurd (not_both e refl)
 
-  pub closes_seen : (q : Place) (b : Wrap O) (n : Option (Node O)) → seen_what q (closes b n) ≡ closes b n
-  closes_seen q Deeper n = refl
-  closes_seen q (Framed o back) None = refl
-  closes_seen q (Framed o back) (Some n) = refl
+  -- whatever a wrap undoes is one of these
+  pub any_close : (P : What O → Type 0) (b : Wrap O) (m n : Option (Node O)) → P Unnested → P Seen → ((o : O) → P (Changed o)) → P (closes b m n)
+  any_close P Deeper m n x y f = x
+  any_close P (Framed o back) m n x y f = by (nat_lt (depth_of n) (depth_of m)) n
+    where
+      by : (t : Bool) (n : Option (Node O)) → P (brought_back t back n)
+      by t None = y
+      by true (Some n) = y
+      by false (Some n) = f (back n.own)
+
+  brought_seen : (q : Place) (t : Bool) (back : O → O) (n : Option (Node O)) → seen_what q (brought_back t back n) ≡ brought_back t back n
+  brought_seen q t back None = refl
+  brought_seen q true back (Some n) = refl
+  brought_seen q false back (Some n) = refl
+
+  pub closes_seen : (q : Place) (b : Wrap O) (m n : Option (Node O)) → seen_what q (closes b m n) ≡ closes b m n
+  closes_seen q Deeper m n = refl
+  closes_seen q (Framed o back) m n = brought_seen q (nat_lt (depth_of n) (depth_of m)) back n
 
   -- what a subtree is handed are words of a list
   pub listed_one : (p : Place) (x : What O) (gs : List Grant) → (hs : List Grant) × (granted p x (Listed gs) ≡ Listed hs)
@@ -327,11 +337,7 @@ module _ {O : Type 0} where
 
   dropping_life : (name : List ℕ) (n : Option (Node O)) (x : Deed O) (m : List ℕ) → Some (dropping name n) ≡ Some x → x.0 ≡ Some m → IsLife x.1
   dropping_life name None x m e f = not_here (None, Seen, On) x m refl e f
-  dropping_life name (Some n) x m e f = go n.depth e
-    where
-      go : (d : ℕ) → Some (dropping_at name d) ≡ Some x → IsLife x.1
-      go zero g = subst (λ z. IsLife z.1) (Some-inj (Some name, Dropped, On) g) tt
-      go (suc d) g = not_here (None, Seen, On) x m refl g f
+  dropping_life name (Some n) x m e f = subst (λ z. IsLife z.1) (Some-inj (Some name, Dropped, On) e) tt
 
   -- only making and dropping is done elsewhere than here
   pub elsewhere_life : (d : Act O) (T : Tree O) (p : Place) (gs : Grants) (x : Deed O) (name : List ℕ) → decide d T p gs ≡ Some x → x.0 ≡ Some name → IsLife x.1
@@ -356,6 +362,15 @@ spot_in c p q s e = ap (λ r. strip c (spot r s)) (strip-sound c p q e) ∙ ap (
 pub reached_at : {O : Type 0} (n : Option (Node O)) (t p : Place) → where_stands n p ≡ Some t → t ≡ p
 reached_at None t p e = absurd (not_both refl e)
 reached_at (Some n) t p e = sym (Some-inj p e)
+
+where_stood : {O : Type 0} (n : Option (Node O)) (t p : Place) → where_stands n p ≡ Some t → (m : Node O) × (n ≡ Some m)
+where_stood None t p e = absurd (not_both refl e)
+where_stood (Some n) t p e = (n, refl)
+
+pub reached_stands : {O : Type 0} (T : Tree O) (a down t : Place) → reached T a down ≡ Some t → (m : Node O) × (T t ≡ Some m)
+reached_stands T a down t e =
+    let h = where_stood (T (a ++ down)) t (a ++ down) e in
+    (h.0, ap T (reached_at (T (a ++ down)) t (a ++ down) e) ∙ h.1)
 
 -- a budget says nothing more where it refuses
 pub denied_budget : (o : Option Place) (n : ℕ) → denied o (Budget n) ≡ Budget n

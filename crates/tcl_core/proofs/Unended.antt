@@ -6,23 +6,23 @@ use Rattle.tcl_core.specs.Endings.Meter.{Count, Depth}
 use Rattle.tcl_core.specs.Endings.Reply.{Completed, Stop, Exit, Cut}
 use Rattle.tcl_core.specs.Endings.Cause.{Above, Over}
 use Rattle.tcl_core.specs.Entries.{Answer}
-use Rattle.tcl_core.specs.Entries.Answer.{Replied, Heard}
-use Rattle.tcl_core.specs.Trees.{Grants, Tree, Node, What, Move}
+use Rattle.tcl_core.specs.Entries.Answer.{Replied, Heard, Nobody}
+use Rattle.tcl_core.specs.Trees.{Grants, Tree, Node, What, Move, depth_of}
 use Rattle.tcl_core.specs.Trees.Grant.{Allow, Deny}
 use Rattle.tcl_core.specs.Trees.Grants.{Listed, Budget}
 use Rattle.tcl_core.specs.Trees.What.{Seen, Charged, Refused, Nested, Limited, DepthLimited, Done, Back}
 use Rattle.tcl_core.specs.Trees.Move.{Born, Fall, Enter, Come}
-use Rattle.tcl_core.specs.Programs.{Deed, spot, Act, Wrap, Wait, Next, Prog, Table, decide, opens, closes, changing, making, dropping, dropping_at, metered, by_limit, blocked, is_spent, is_deep}
+use Rattle.tcl_core.specs.Programs.{Deed, spot, Act, Wrap, Wait, Next, Prog, Table, decide, opens, closes, changing, making, dropping, metered, by_limit, blocked, is_spent, is_deep}
 use Rattle.tcl_core.specs.Programs.Next.{On, TooDeep, Off}
 use Rattle.tcl_core.specs.Programs.Act.{Look, Change, Charge, Limit, LimitDepth, Make, Drop}
 use Rattle.tcl_core.specs.Programs.Wrap.{Deeper, Framed}
-use Rattle.tcl_core.specs.Runs.{World, Step, Ending, Halts, Exits, Exiting, carried, ends_call, height_of}
+use Rattle.tcl_core.specs.Runs.{World, Step, Ending, Halts, Exits, Exiting, carried, ends_call, height_of, gone}
 use Rattle.tcl_core.specs.Rules.{Derives, IsOn}
-use Rattle.tcl_core.specs.Rules.Derives.{completed, exited, acted, refused, unheard, went, passed, halted, wrapped, wrapped_passed, wrapped_halted, too_deep, shut, unheard_inside, called, called_passed, called_halted, unreached, called_out, unanswered, unfit, answered, heard, answered_passed, entered, entered_halted, entered_exiting, born, fallen}
+use Rattle.tcl_core.specs.Rules.Derives.{completed, exited, acted, refused, unheard, went, passed, halted, wrapped, wrapped_passed, wrapped_halted, too_deep, shut, unheard_inside, called, called_passed, called_halted, unreached, called_out, unanswered, unfit, answered, heard, missed, answered_passed, entered, entered_halted, entered_exiting, born, fallen, unfound}
 use Rattle.tcl_core.specs.Lives.{Uncut, IsUncut}
 use Rattle.tcl_core.specs.Laws.{Unended, IsUnended}
 use Rattle.tcl_core.proofs.PathLaws.{not_both, Some-inj, rise_some}
-use Rattle.tcl_core.proofs.TreeLaws.{blocked_near}
+use Rattle.tcl_core.proofs.TreeLaws.{blocked_near, any_close}
 use Rattle.tcl_core.proofs.Keeping.{KeepsSteps, derived_keep}
 
 abbrev pub IsNoCut : Next → Type 0
@@ -56,6 +56,7 @@ done_uncut O p h (Cut c) f = f
 
 back_uncut : (O : Type 0) (p : Place) (h : Height) (y : Answer) → Unended {O = O} p (Back h y) → Uncut {O = O} p (Back h y)
 back_uncut O p h (Heard x) f = tt
+back_uncut O p h Nobody f = tt
 back_uncut O p h (Replied (Completed c)) f = tt
 back_uncut O p h (Replied (Stop n m)) f = tt
 back_uncut O p h (Replied (Exit n)) f = tt
@@ -85,11 +86,7 @@ module _ {O : Type 0} where
 
   dropping_uncut : (p : Place) (name : List ℕ) (n : Option (Node O)) → Uncut (spot p (dropping name n).0) (dropping name n).1
   dropping_uncut p name None = tt
-  dropping_uncut p name (Some n) = by n.depth
-    where
-      by : (d : ℕ) → Uncut {O = O} (spot p (dropping_at {O = O} name d).0) (dropping_at name d).1
-      by zero = tt
-      by (suc d) = tt
+  dropping_uncut p name (Some n) = tt
 
   pub decide_uncut : (d : Act O) (T : Tree O) (p : Place) (gs : Grants) (x : Deed O) → decide d T p gs ≡ Some x → IsNoCut x.2 → Uncut (spot p x.0) x.1
   decide_uncut Look T p gs x e = of_deed p (None, Seen, On) x (λ c. tt) e
@@ -104,10 +101,8 @@ module _ {O : Type 0} where
   opens_uncut Deeper T p gs x e = metered_uncut is_deep T p Depth Nested (blocked is_deep T p) gs x refl tt e
   opens_uncut (Framed o back) T p gs x e = of_deed p (changing o (T p)) x (λ c. changing_uncut p o (T p)) e
 
-  closes_uncut : (p : Place) (b : Wrap O) (n : Option (Node O)) → Uncut p (closes b n)
-  closes_uncut p Deeper n = tt
-  closes_uncut p (Framed o back) None = tt
-  closes_uncut p (Framed o back) (Some n) = tt
+  closes_uncut : (p : Place) (b : Wrap O) (m n : Option (Node O)) → Uncut p (closes b m n)
+  closes_uncut p b m n = any_close (Uncut p) b m n tt tt (λ o. tt)
 
   before : (w : World O) (p : Place) (x : What O) (u : World O) → Step w p x u → Uncut p x → IsUncut u.tape → IsUncut w.tape
   before w p x u s f g = subst IsUncut (sym s.tape) (f, g)
@@ -136,11 +131,12 @@ module _ {O : Type 0} where
       by (Enter u i ∷ ms) x = halt x
 
 -- a reply that isn't cut, as the caller is told it, wasn't
-pub carried_cut : (h : Height) (p : Place) (down : Path) (r : Reply) → NotCut (carried h p down r) → NotCut r
-carried_cut h p down (Completed c) f = tt
-carried_cut h p down (Stop n m) f = tt
-carried_cut h p down (Exit n) f = tt
-carried_cut h p down (Cut c) f = f
+pub carried_cut : (g : Option ℕ) (h : Height) (p : Place) (down : Path) (r : Reply) → NotCut (carried g h p down r) → NotCut r
+carried_cut g h p down (Completed c) f = tt
+carried_cut g h p down (Stop n m) f = tt
+carried_cut g h p down (Exit n) f = tt
+carried_cut None h p down (Cut c) f = f
+carried_cut (Some g) h p down (Cut c) f = f
 
 -- an entry from outside that isn't ended from there isn't cut
 entry_cut : (O : Type 0) (t : Place) (r : Reply) → Unended {O = O} t (Done None r) → NotCut r
@@ -166,10 +162,10 @@ module _ {O I : Type 0} (prog : Table O I) where
       let f1 = (after w _ x.1 inner s f).1 in
       let f2 = rest_of a f1 in
       before w _ x.1 inner s (opens_uncut b w.tree p w.grants x g (on_no_cut x.2 (subst IsOn (sym on) tt)))
-      (uncut a f1 tt (before left p _ closed t (closes_uncut p b (left.tree p)) (uncut d (after left p _ closed t f2).1 n h)))
+      (uncut a f1 tt (before left p _ closed t (closes_uncut p b (inner.tree p) (left.tree p)) (uncut d (after left p _ closed t f2).1 n h)))
   uncut (wrapped_passed w p b i k x inner left closed r q g on s a t) f n h =
       before w _ x.1 inner s (opens_uncut b w.tree p w.grants x g (on_no_cut x.2 (subst IsOn (sym on) tt)))
-      (uncut a (after w _ x.1 inner s f).1 n (before left p _ closed t (closes_uncut p b (left.tree p)) h))
+      (uncut a (after w _ x.1 inner s f).1 n (before left p _ closed t (closes_uncut p b (inner.tree p) (left.tree p)) h))
   uncut (wrapped_halted w p b i k x inner left g on s a) f n h =
       before w _ x.1 inner s (opens_uncut b w.tree p w.grants x g (on_no_cut x.2 (subst IsOn (sym on) tt))) (uncut a (after w _ x.1 inner s f).1 n h)
   uncut (too_deep w p b i k x u v e g deep s a) f n h =
@@ -180,14 +176,14 @@ module _ {O I : Type 0} (prog : Table O I) where
       let f2 = (after out t _ inner s2 (after w p _ out s1 f).1).1 in
       let f3 = after left t _ told s3 (rest_of x f2) in
       let f4 = after told p _ back s4 f3.1 in
-      before w p _ out s1 tt (before out t _ inner s2 tt (uncut x f2 (carried_cut h p down r (subst NotCut (sym so) tt))
-      (before left t _ told s3 (done_uncut O t (Some (length down)) r f3.0) (before told p _ back s4 (back_uncut O p h (Replied (carried h p down r)) f4.0) (uncut z f4.1 n m)))))
+      before w p _ out s1 tt (before out t _ inner s2 tt (uncut x f2 (carried_cut (gone (depth_of (out.tree p)) told.tree p) h p down r (subst NotCut (sym so) tt))
+      (before left t _ told s3 (done_uncut O t (Some (length down)) r f3.0) (before told p _ back s4 (back_uncut O p h (Replied (carried (gone (depth_of (out.tree p)) told.tree p) h p down r)) f4.0) (uncut z f4.1 n m)))))
   uncut (called_passed w p h down i lost k a t out inner left told back r g s1 j s2 x s3 q s4) f n m =
       let f2 = (after out t _ inner s2 (after w p _ out s1 f).1).1 in
       let f3 = after left t _ told s3 (rest_of x f2) in
       let f4 = after told p _ back s4 f3.1 in
-      before w p _ out s1 tt (before out t _ inner s2 tt (uncut x f2 (carried_cut h p down r n)
-      (before left t _ told s3 (done_uncut O t (Some (length down)) r f3.0) (before told p _ back s4 (back_uncut O p h (Replied (carried h p down r)) f4.0) m))))
+      before w p _ out s1 tt (before out t _ inner s2 tt (uncut x f2 (carried_cut (gone (depth_of (out.tree p)) told.tree p) h p down r n)
+      (before left t _ told s3 (done_uncut O t (Some (length down)) r f3.0) (before told p _ back s4 (back_uncut O p h (Replied (carried (gone (depth_of (out.tree p)) told.tree p) h p down r)) f4.0) m))))
   uncut (called_halted w p h down i lost k a t out inner left g s1 j s2 x) f n m =
       before w p _ out s1 tt (before out t _ inner s2 tt (uncut x (after out t _ inner s2 (after w p _ out s1 f).1).1 n m))
   uncut (unreached w p h down i lost k a out back v e g s1 j s2 x) f n m =
@@ -198,13 +194,15 @@ module _ {O I : Type 0} (prog : Table O I) where
   uncut (unfit w p s k m ms g j l t) f n h = h
   uncut (answered w p s k c u v e g j t a) f n h = before w p _ u t tt (uncut a (after w p _ u t f).1 n h)
   uncut (heard w p s k y u v e g j t a) f n h = before w p _ u t tt (uncut a (after w p _ u t f).1 n h)
+  uncut (missed w p s k u v e g j t a) f n h = before w p _ u t tt (uncut a (after w p _ u t f).1 n h)
   uncut (answered_passed w p s k r u q g j t) f n h = before w p _ u t (back_uncut O p (height_of s) (Replied r) (after w p _ u t f).0) h
-  uncut (entered w p s k t i inner left told v r e g s1 a s2 q b) f n h =
+  uncut (entered w p s k t i inner left told v r e g here s1 a s2 q b) f n h =
       let f1 = (after w t _ inner s1 f).1 in
       let f2 = after left t _ told s2 (rest_of a f1) in
       before w t _ inner s1 tt (uncut a f1 (entry_cut O t r f2.0) (before left t _ told s2 (done_uncut O t None r f2.0) (uncut b f2.1 n h)))
-  uncut (entered_halted w p s k t i inner left g s1 a) f n h = before w t _ inner s1 tt (uncut a (after w t _ inner s1 f).1 n h)
-  uncut (entered_exiting w p s k t i inner left told v y e g s1 a s2 b) f n h =
+  uncut (entered_halted w p s k t i inner left g here s1 a) f n h = before w t _ inner s1 tt (uncut a (after w t _ inner s1 f).1 n h)
+  uncut (entered_exiting w p s k t i inner left told v y e g here s1 a s2 b) f n h =
       before w t _ inner s1 tt (uncut a (after w t _ inner s1 f).1 tt (before left t _ told s2 tt (exits_uncut told p s y told.moves v e b h)))
   uncut (born w p s k o b u v e g t a) f n h = before w [] _ u t tt (uncut a (after w [] _ u t f).1 n h)
+  uncut (unfound w p s k t i u v e g here b a) f n h = before w [] _ u b tt (uncut a (after w [] _ u b f).1 n h)
   uncut (fallen w p s k u v e g t a) f n h = before w [] _ u t tt (uncut a (after w [] _ u t f).1 n h)

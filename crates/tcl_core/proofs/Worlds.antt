@@ -4,15 +4,15 @@ use Rattle.tcl_core.specs.Paths.{Path, Place, rise_to}
 use Rattle.tcl_core.specs.Endings.{Reply}
 use Rattle.tcl_core.specs.Endings.Reply.{Completed, Stop, Exit, Cut}
 use Rattle.tcl_core.specs.Entries.{Entry}
-use Rattle.tcl_core.specs.Trees.{What, Event, Move, at}
+use Rattle.tcl_core.specs.Trees.{What, Event, Move, at, Node}
 use Rattle.tcl_core.specs.Trees.Grants.{Budget}
-use Rattle.tcl_core.specs.Trees.What.{Made, Dropped, In, Done}
+use Rattle.tcl_core.specs.Trees.What.{Made, Dropped, In, Done, Unfound}
 use Rattle.tcl_core.specs.Trees.Move.{Born, Fall, Enter, Come}
 use Rattle.tcl_core.specs.Programs.{Table}
 use Rattle.tcl_core.specs.Programs.Prog.{wait}
-use Rattle.tcl_core.specs.Runs.{World, Ending, Halts, Exits, Stays, Visits, Waits, Runs, RunsIn, entering}
+use Rattle.tcl_core.specs.Runs.{World, Ending, Halts, Exits, Stays, Visits, Waits, Runs, RunsIn, Enters}
 use Rattle.tcl_core.specs.Rules.{Derives}
-use Rattle.tcl_core.specs.Rules.Derives.{unanswered}
+use Rattle.tcl_core.specs.Rules.Derives.{unanswered, unfound}
 use Rattle.tcl_core.specs.Views.{moves_of, steps_of, view, inside_of}
 use Rattle.tcl_core.specs.Lives
 use Rattle.tcl_core.specs.Lives.{Lives, Outcome, Reacts, AllRead, alone, begun, begun_at, ended, ended_at, idle, never, outs_of}
@@ -25,9 +25,9 @@ use Rattle.tcl_core.proofs.Counts.{standing}
 use Rattle.tcl_core.specs.Lives.{IsUncut}
 use Rattle.tcl_core.proofs.Unended.{uncut}
 use Rattle.tcl_core.proofs.RuleLaws.{Ruled, derived_runs, runs_derived, enter_rule}
-use Rattle.tcl_core.proofs.Budgets.{budgeted}
+use Rattle.tcl_core.proofs.Budgets.{budgeted, step_budget}
 use Rattle.tcl_core.proofs.Balance.{in_at, done_at, ins, dones, Owes, owes, visit_owes, view_ins, view_dones}
-use Rattle.tcl_core.proofs.Reacting.{IsHanded, IsLasting, lasting, lasts, no_move, exits_idle, visit_budget, after_visit, balanced_after, never_halts, lift_visits, life_of}
+use Rattle.tcl_core.proofs.Reacting.{IsHanded, IsLasting, lasting, lasts, no_move, exits_idle, visit_budget, after_visit, balanced_after, never_halts, lift_visits, life_of, kept_step}
 use Rattle.tcl_core.proofs.Halts.{halted_tape}
 use Rattle.tcl_core.proofs.Parting.{cut, Beyond, Stops, Result, Run_of, part}
 use Rattle.tcl_core.proofs.Conclusions.{determinism, lives_within}
@@ -48,7 +48,7 @@ module _ {O : Type 0} where
   at_move left rest (inr e) = e.1
 
 module _ {O : Type 0} where
-  begun_ins : (τ : List (Event O)) → begun τ ≡ ins [] τ
+  pub begun_ins : (τ : List (Event O)) → begun τ ≡ ins [] τ
   begun_ins [] = refl
   begun_ins (ev ∷ τ) = step ev.place ev.what (begun τ) (ins [] τ) (begun_ins τ)
     where
@@ -60,7 +60,7 @@ module _ {O : Type 0} where
       step p (In h i) n m e = more (rise_to h p) n m e
       step p x n m e = e
 
-  ended_dones : (τ : List (Event O)) → ended τ ≡ dones [] τ
+  pub ended_dones : (τ : List (Event O)) → ended τ ≡ dones [] τ
   ended_dones [] = refl
   ended_dones (ev ∷ τ) = step ev.place ev.what (ended τ) (dones [] τ) (ended_dones τ)
     where
@@ -91,7 +91,7 @@ module _ {O I : Type 0} (prog : Table O I) (k : ℕ) where
   Living n = (z y : World O) → IsHanded z → IsLasting z.tape → IsUncut z.tape → ins [] z.tape ≡ dones [] z.tape → y.tape ≡ [] → RunsIn prog n z [] (wait idle never) y None → Life_of z y
 
   ruled_visit : (z : World O) (t : Path) (i : Entry) (u : World O) (r : Reply) → Visits prog (Runs prog) z None t i u (Some r) → Visits prog (Ruled prog) z None t i u (Some r)
-  ruled_visit z t i u r a = record { entered = a.entered; left = a.left; entry = a.entry; run = runs_derived prog a.entered t (entering prog (z.tree t) i) a.left (Some r) a.run; leaving = a.leaving }
+  ruled_visit z t i u r a = record { node = a.node; stands = a.stands; entered = a.entered; left = a.left; entry = a.entry; run = runs_derived prog a.entered t (prog.entry i) a.left (Some r) a.run; leaving = a.leaving }
 
   ended_life : (z y : World O) → IsHanded z → Halts z y None → Life_of z y
   ended_life z y a h = subst (λ u. Derives prog (bud z) [] (wait idle never) (bud u) None) (sym h.same) (unanswered (bud z) [] idle never refl (a ∙ ap moves_of h.tape) h.tape)
@@ -112,13 +112,20 @@ module _ {O I : Type 0} (prog : Table O I) (k : ℕ) where
       let j = after_visit prog k z t i u (Cut q) (outcome_of z.tape Finished) refl a b l v in
       absurd (j.4 refl)
 
+  enters_next : (n : ℕ) → Living n → (z y : World O) → IsHanded z → IsLasting z.tape → IsUncut z.tape → ins [] z.tape ≡ dones [] z.tape → y.tape ≡ [] → (t : Path) (i : Entry) (x : Option (Node O)) → z.tree t ≡ x → Enters prog (RunsIn prog n) z [] idle never t i x y None → Life_of z y
+  enters_next n ih z y a b l d f t i None g (u, s, h) =
+      let j = kept_step (outcome_of z.tape Finished) z [] (Unfound t i (prog.lost t)) u tt s (a, b, l, (Finished, refl)) in
+      let still : ins [] u.tape ≡ dones [] u.tape = sym (ap (ins []) s.tape) ∙ d ∙ ap (dones []) s.tape in
+      unfound (bud z) [] idle never t i (bud u) (bud y) None refl g (step_budget k z [] (Unfound t i (prog.lost t)) u s) (ih u y j.0 j.1 j.2 still f h)
+  enters_next n ih z y a b l d f t i (Some x) g (u, None, v, s) = never_halts prog k z t i u (lift_visits prog k n z t i u None v) d (ap (λ w. w.tape) (sym s.0) ∙ f)
+  enters_next n ih z y a b l d f t i (Some x) g (u, Some r, v, s) = goes_on n ih z u y t i r a b l d f (lift_visits prog k n z t i u (Some r) v) s
+
   living_next : (n : ℕ) → Living n → (z y : World O) → IsHanded z → IsLasting z.tape → IsUncut z.tape → ins [] z.tape ≡ dones [] z.tape → y.tape ≡ [] → (ms : List (Move O)) → z.moves ≡ ms → Waits prog (RunsIn prog n) z [] idle never ms y None → Life_of z y
   living_next n ih z y a b l d f [] q h = ended_life z y a h
   living_next n ih z y a b l d f (Come w ∷ ms) q h = no_move z (Come w) ms a q h.tape
   living_next n ih z y a b l d f (Born o s ∷ ms) q (u, t, h) = lasts z (Made o s) u t b (λ g. absurd (g refl))
   living_next n ih z y a b l d f (Fall ∷ ms) q (u, t, h) = lasts z Dropped u t b (λ g. absurd (g refl))
-  living_next n ih z y a b l d f (Enter t i ∷ ms) q (u, None, v, s) = never_halts prog k z t i u (lift_visits prog k n z t i u None v) d (ap (λ w. w.tape) (sym s.0) ∙ f)
-  living_next n ih z y a b l d f (Enter t i ∷ ms) q (u, Some r, v, s) = goes_on n ih z u y t i r a b l d f (lift_visits prog k n z t i u (Some r) v) s
+  living_next n ih z y a b l d f (Enter t i ∷ ms) q h = enters_next n ih z y a b l d f t i (z.tree t) refl h
 
   pub living : (n : ℕ) → Living n
   living zero z y a b c d f g = absurd g
@@ -131,9 +138,9 @@ module _ {O I : Type 0} where
       let l : Lives prog (inside_of c w) (inside_of c v) None = lives_within prog c w v (life_of prog w v t i r a e f) in
       uncut prog (runs_derived prog (inside_of c w) [] (wait idle never) (inside_of c v) None l) une tt (subst (λ τ. IsUncut (view c τ)) (sym f) tt)
 
-  within_done : (prog : Table O I) (c : Place) (w v : World O) (t : Path) (i : Entry) (r : Reply) → Visits prog (Runs prog) w None t i v (Some r) → v.tape ≡ [] → ins [] (view c w.tape) ≡ dones [] (view c w.tape)
+  pub within_done : (prog : Table O I) (c : Place) (w v : World O) (t : Path) (i : Entry) (r : Reply) → Visits prog (Runs prog) w None t i v (Some r) → v.tape ≡ [] → ins [] (view c w.tape) ≡ dones [] (view c w.tape)
   within_done prog c w v t i r a f =
-      let o : Owes c w v (Some r) = visit_owes c w a.entered a.left v None t i r a.entry (owes c prog (runs_derived prog a.entered t (entering prog (w.tree t) i) a.left (Some r) a.run)) a.leaving in
+      let o : Owes c w v (Some r) = visit_owes c w a.entered a.left v None t i r a.entry (owes c prog (runs_derived prog a.entered t (prog.entry i) a.left (Some r) a.run)) a.leaving in
       let s : ins c w.tape + dones c v.tape ≡ dones c w.tape + ins c v.tape + o.open_ins = o.sum in
       let n : o.open_ins ≡ 0 = o.none_left r refl in
       let p : ins c v.tape ≡ 0 = ap (ins c) f in

@@ -21,6 +21,12 @@ pub data Meter : Type 0 where
   Count : Meter
   Depth : Meter
 
+-- What a stop is raised for: a limit is reached, or the interpreter that it names was dropped while
+-- an evaluation was in progress in it or below it.
+pub data Kind : Type 0 where
+  Full : (meter : Meter) → Kind
+  Gone : Kind
+
 -- What cuts an evaluation off from outside the tree: a stop that names an interpreter above it; or
 -- that its run is over, since the budget is spent or a move didn't fit.
 pub data Cause : Type 0 where
@@ -31,7 +37,7 @@ pub data Cause : Type 0 where
 -- from the one whose evaluation ends; by the exit of the whole run; or cut off from outside.
 pub data Reply : Type 0 where
   Completed : (completion : Completion) → Reply
-  Stop : (levels : ℕ) (meter : Meter) → Reply
+  Stop : (levels : ℕ) (kind : Kind) → Reply
   Exit : (status : ℤ) → Reply
   Cut : (cause : Cause) → Reply
 
@@ -58,9 +64,10 @@ abbrev pub error : Text → Completion
 error t = completion (pos 1) t
 
 -- what a caller elsewhere is told of a stop
-abbrev pub refusal : Meter → Completion
-refusal Count = error (codes "command count limit exceeded")
-refusal Depth = error (codes "too many nested evaluations (infinite loop?)")
+abbrev pub refusal : Kind → Completion
+refusal (Full Count) = error (codes "command count limit exceeded")
+refusal (Full Depth) = error (codes "too many nested evaluations (infinite loop?)")
+refusal Gone = error (codes "interpreter was deleted")
 
 abbrev pub outside_of_loop : Text → Completion
 outside_of_loop word = error (codes "invoked \"" ++ word ++ codes "\" outside of a loop")

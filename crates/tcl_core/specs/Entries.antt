@@ -72,12 +72,15 @@ pub data Entry : Type 0 where
   -- only the host is asked for this
   AskHost : (request : Request) → Entry
 
--- what comes back to a call
+-- What comes back to a call. One that leaves the tree may find nobody who could be asked.
 pub data Answer : Type 0 where
   Replied : (reply : Reply) → Answer
   Heard : (reply : HostReply) → Answer
+  Nobody : Answer
 
--- what a program is told of it: what is no completion it is not told of
+-- What a program is told of it: what is no completion it is not told of. (Where nobody is there, it
+-- goes on by a completion of its own: `or_lost`.)
 pub data Said : Type 0 where
   Finished : (completion : Completion) → Said
   Told : (reply : HostReply) → Said
+  Missed : Said

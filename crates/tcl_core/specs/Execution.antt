@@ -6,19 +6,21 @@ use Rattle.std.specs.Prelude.{length}
 use Rattle.tcl_core.specs.Paths.{Path, Place, Height, rise_to}
 use Rattle.tcl_core.specs.Endings.{Completion, Reply, IsQuit, refusal}
 use Rattle.tcl_core.specs.Endings.Meter.{Depth}
+use Rattle.tcl_core.specs.Endings.Kind.{Full}
 use Rattle.tcl_core.specs.Endings.Reply.{Completed, Exit}
 use Rattle.tcl_core.specs.Entries.{Entry, HostReply, Said}
-use Rattle.tcl_core.specs.Entries.Answer.{Replied, Heard}
-use Rattle.tcl_core.specs.Entries.Said.{Finished, Told}
-use Rattle.tcl_core.specs.Trees.{Tree, Node, What, Event, Grant, effect, granted, at}
+use Rattle.tcl_core.specs.Entries.Answer.{Replied, Heard, Nobody}
+use Rattle.tcl_core.specs.Entries.Said.{Finished, Told, Missed}
+use Rattle.tcl_core.specs.Trees.{Tree, Node, What, Event, Grant, effect, granted, at, depth_of}
 use Rattle.tcl_core.specs.Trees.Grants.{Listed}
-use Rattle.tcl_core.specs.Trees.What.{Charged, Refused, Dropped, Out, In, Done, Back}
+use Rattle.tcl_core.specs.Trees.What.{Charged, Refused, Dropped, Out, In, Done, Back, Unfound}
 use Rattle.tcl_core.specs.Trees.Move.{Come}
 use Rattle.tcl_core.specs.Programs.{Calls_only, Deed, spot, Act, Wrap, Wait, Prog, Table, decide}
-use Rattle.tcl_core.specs.Programs.{opens, closes}
+use Rattle.tcl_core.specs.Programs.{opens, closes, or_lost}
 use Rattle.tcl_core.specs.Programs.Next.{On, TooDeep, Off}
 use Rattle.tcl_core.specs.Programs.Prog.{done, exit, act, go, inside, call, wait}
-use Rattle.tcl_core.specs.Runs.{World, Runs, carried, reached, entering, fits, height_of}
+use Rattle.tcl_core.specs.Runs.{World, Runs, returned, reached, fits}
+use Rattle.tcl_core.specs.Runs.{height_of}
 use Rattle.tcl_core.specs.Rules.{IsOn, IsNoExit}
 use Rattle.tcl_core.specs.Views.{moves_of, grants_of}
 
@@ -58,19 +60,21 @@ pub data Executes {O I S : Type 0} (step : Tree O → S → Wait → Event O →
       {k : Completion → Prog O I} {c : Completion} {r : Reply} (x : Deed O) →
       Opens_so b T p x → x.2 ≡ On → step T o None (event (spot p x.0) x.1) o1 →
       Executes step prog (effect (spot p x.0) x.1 T) o1 p (prog.program i) U o2 (Completed c) →
-      step U o2 None (event p (closes b (U p))) o3 →
-      Executes step prog (effect p (closes b (U p)) U) o3 p (k c) V z r →
+      step U o2 None (event p (closes b (effect (spot p x.0) x.1 T p) (U p))) o3 →
+      Executes step prog (effect p (closes b (effect (spot p x.0) x.1 T p) (U p)) U) o3 p (k c) V z
+      r →
       Executes step prog T o p (inside b i k) V z r
   wrapped_passed : {T U : Tree O} {o o1 o2 o3 : S} {p : Place} {b : Wrap O} {i : I}
       {k : Completion → Prog O I} {r : Reply} (x : Deed O) → IsQuit r →
       Opens_so b T p x → x.2 ≡ On → step T o None (event (spot p x.0) x.1) o1 →
       Executes step prog (effect (spot p x.0) x.1 T) o1 p (prog.program i) U o2 r →
-      step U o2 None (event p (closes b (U p))) o3 →
-      Executes step prog T o p (inside b i k) (effect p (closes b (U p)) U) o3 r
+      step U o2 None (event p (closes b (effect (spot p x.0) x.1 T p) (U p))) o3 →
+      Executes step prog T o p (inside b i k)
+      (effect p (closes b (effect (spot p x.0) x.1 T p) (U p)) U) o3 r
   too_deep : {T V : Tree O} {o u z : S} {p : Place} {b : Wrap O} {i : I} {k : Completion → Prog O I}
       {r : Reply} (x : Deed O) →
       Opens_so b T p x → x.2 ≡ TooDeep → step T o None (event (spot p x.0) x.1) u →
-      Executes step prog (effect (spot p x.0) x.1 T) u p (k (refusal Depth)) V z r →
+      Executes step prog (effect (spot p x.0) x.1 T) u p (k (refusal (Full Depth))) V z r →
       Executes step prog T o p (inside b i k) V z r
   shut : {T : Tree O} {o u : S} {p : Place} {b : Wrap O} {i : I} {k : Completion → Prog O I}
       {r : Reply} (x : Deed O) →
@@ -82,9 +86,10 @@ pub data Executes {O I S : Type 0} (step : Tree O → S → Wait → Event O →
       rise_to h p ≡ Some a → reached T a down ≡ Some t →
       step T o None (event p (Out h down i)) o1 →
       step T o1 None (event t (In (Some (length down)) i)) o2 →
-      Executes step prog T o2 t (entering prog (T t) i) U o3 s →
-      step U o3 None (event t (Done (Some (length down)) s)) o4 → carried h p down s ≡ Completed c →
-      step U o4 None (event p (Back h (Replied (carried h p down s)))) o5 →
+      Executes step prog T o2 t (prog.entry i) U o3 s →
+      step U o3 None (event t (Done (Some (length down)) s)) o4 →
+      returned T U h p down s ≡ Completed c →
+      step U o4 None (event p (Back h (Replied (returned T U h p down s)))) o5 →
       Executes step prog U o5 p (k (Finished c)) V z r →
       Executes step prog T o p (call h down i lost k) V z r
   called_passed : {T U : Tree O} {o o1 o2 o3 o4 o5 : S} {p : Place} {h : Height} {down : Path}
@@ -92,8 +97,9 @@ pub data Executes {O I S : Type 0} (step : Tree O → S → Wait → Event O →
       rise_to h p ≡ Some a → reached T a down ≡ Some t →
       step T o None (event p (Out h down i)) o1 →
       step T o1 None (event t (In (Some (length down)) i)) o2 →
-      Executes step prog T o2 t (entering prog (T t) i) U o3 s →
-      step U o3 None (event t (Done (Some (length down)) s)) o4 → carried h p down s ≡ r →
+      Executes step prog T o2 t (prog.entry i) U o3 s →
+      step U o3 None (event t (Done (Some (length down)) s)) o4 →
+      returned T U h p down s ≡ r →
       IsQuit r → step U o4 None (event p (Back h (Replied r))) o5 →
       Executes step prog T o p (call h down i lost k) U o5 r
   unreached : {T V : Tree O} {o o1 o2 z : S} {p : Place} {h : Height} {down : Path} {i : Entry}
@@ -106,37 +112,45 @@ pub data Executes {O I S : Type 0} (step : Tree O → S → Wait → Event O →
   called_out : {T V : Tree O} {o u z : S} {p : Place} {h : Height} {down : Path} {i : Entry}
       {lost : Completion} {k : Said → Prog O I} {r : Reply} → rise_to h p ≡ None →
       step T o None (event p (Out h down i)) u →
-      Executes step prog T u p (wait (Some (h, i)) k) V z r →
+      Executes step prog T u p (wait (Some (h, i, depth_of (T p))) (or_lost lost k)) V z r →
       Executes step prog T o p (call h down i lost k) V z r
   answered : {T V : Tree O} {o u z : S} {p : Place} {s : Wait} {k : Said → Prog O I}
       {c : Completion} {r : Reply} → rise_to (height_of s) p ≡ None →
-      fits {O = O} s (Come (Replied (Completed c))) ≡ true →
+      fits T p s (Come (Replied (Completed c))) ≡ true →
       step T o s (event p (Back (height_of s) (Replied (Completed c)))) u →
       Executes step prog T u p (k (Finished c)) V z r →
       Executes step prog T o p (wait s k) V z r
   heard : {T V : Tree O} {o u z : S} {p : Place} {s : Wait} {k : Said → Prog O I} {a : HostReply}
       {r : Reply} → rise_to (height_of s) p ≡ None →
-      fits {O = O} s (Come (Heard a)) ≡ true →
+      fits T p s (Come (Heard a)) ≡ true →
       step T o s (event p (Back (height_of s) (Heard a))) u →
       Executes step prog T u p (k (Told a)) V z r → Executes step prog T o p (wait s k) V z r
+  missed : {T V : Tree O} {o u z : S} {p : Place} {s : Wait} {k : Said → Prog O I} {r : Reply} →
+      rise_to (height_of s) p ≡ None → fits T p s (Come Nobody) ≡ true →
+      step T o s (event p (Back (height_of s) Nobody)) u →
+      Executes step prog T u p (k Missed) V z r → Executes step prog T o p (wait s k) V z r
   answered_passed : {T : Tree O} {o u : S} {p : Place} {s : Wait} {k : Said → Prog O I} {r : Reply}
       → IsQuit r → rise_to (height_of s) p ≡ None →
-      fits {O = O} s (Come (Replied r)) ≡ true →
+      fits T p s (Come (Replied r)) ≡ true →
       step T o s (event p (Back (height_of s) (Replied r))) u →
       Executes step prog T o p (wait s k) T u r
   entered : {T U V : Tree O} {o o1 o2 o3 z : S} {p : Place} {s : Wait} {k : Said → Prog O I}
-      {y r : Reply} (t : Path) (i : Entry) → rise_to (height_of s) p ≡ None →
-      step T o None (event t (In None i)) o1 →
-      Executes step prog T o1 t (entering prog (T t) i) U o2 y →
+      {node : Node O} {y r : Reply} (t : Path) (i : Entry) → rise_to (height_of s) p ≡ None →
+      T t ≡ Some node → step T o None (event t (In None i)) o1 →
+      Executes step prog T o1 t (prog.entry i) U o2 y →
       step U o2 None (event t (Done None y)) o3 → IsNoExit y →
       Executes step prog U o3 p (wait s k) V z r → Executes step prog T o p (wait s k) V z r
-  entered_exiting : {T U : Tree O} {o o1 o2 o3 o4 : S} {p : Place} {c : Height × Entry}
-      {k : Said → Prog O I} {n : ℤ} (t : Path) (i : Entry) → rise_to c.0 p ≡ None →
-      step T o None (event t (In None i)) o1 →
-      Executes step prog T o1 t (entering prog (T t) i) U o2 (Exit n) →
+  entered_exiting : {T U : Tree O} {o o1 o2 o3 o4 : S} {p : Place} {c : Height × Entry × ℕ}
+      {k : Said → Prog O I} {node : Node O} {n : ℤ} (t : Path) (i : Entry) → rise_to c.0 p ≡ None →
+      T t ≡ Some node → step T o None (event t (In None i)) o1 →
+      Executes step prog T o1 t (prog.entry i) U o2 (Exit n) →
       step U o2 None (event t (Done None (Exit n))) o3 →
       step U o3 (Some c) (event p (Back c.0 (Replied (Exit n)))) o4 →
       Executes step prog T o p (wait (Some c) k) U o4 (Exit n)
+  unfound : {T V : Tree O} {o u z : S} {p : Place} {s : Wait} {k : Said → Prog O I} {r : Reply}
+      (t : Path) (i : Entry) → rise_to (height_of s) p ≡ None → T t ≡ None →
+      step T o None (event [] (Unfound t i (prog.lost t))) u →
+      Executes step prog T u p (wait s k) V z r → Executes step prog T o p (wait s k) V z r
 
 -- what passes the top
 abbrev pub passing : {O S : Type 0} → Option Place → (Tree O → S → Wait → Event O → S → Type 0) →
@@ -150,6 +164,7 @@ sees goes T o s p (Out h down i) u = passing (rise_to h p) goes T o s (event p (
 sees goes T o s p (In h i) u = passing (rise_to h p) goes T o s (event p (In h i)) u
 sees goes T o s p (Done h r) u = passing (rise_to h p) goes T o s (event p (Done h r)) u
 sees goes T o s p (Back h a) u = passing (rise_to h p) goes T o s (event p (Back h a)) u
+sees goes T o s p (Unfound t i c) u = goes T o s (event p (Unfound t i c)) u
 sees goes T o s p _ u = u ≡ o
 
 -- How an outside goes that is told what passes the top of the tree alone, and who it is that calls;
@@ -167,11 +182,12 @@ hears goes T o s p (Back h a) u = goes T o s (event p (Back h a)) u
 hears goes T o s p Charged u = goes T o s (event p Charged) u
 hears goes T o s p (Refused m None) u = goes T o s (event p (Refused m None)) u
 hears goes T o s p Dropped u = goes T o s (event p Dropped) u
+hears goes T o s p (Unfound t i c) u = goes T o s (event p (Unfound t i c)) u
 hears goes T o s p _ u = u ≡ o
 
 -- How an outside goes that is told of all crossings, those between two interpreters of the tree
--- among them, of the steps that it grants or refuses, and of each interpreter that is dropped; all
--- else leaves it as it is.
+-- among them, of an entry that finds nobody, of the steps that it grants or refuses, and of each
+-- interpreter that is dropped; all else leaves it as it is.
 pub record Crossings {O S : Type 0} (goes : Tree O → S → Wait → Event O → S → Type 0) (T : Tree O)
     (o : S) (s : Wait) (ev : Event O) (u : S) : Type 0 where
   pub told : hears goes T o s ev.place ev.what u
@@ -181,9 +197,9 @@ pub record Crossings {O S : Type 0} (goes : Tree O → S → Wait → Event O �
 -- The calls that left the tree and are open, the last one first: each is answered before one that
 -- was made earlier.
 abbrev pub Open : Type 0
-Open = List (Height × Entry)
+Open = List (Height × Entry × ℕ)
 
-abbrev pub with_call : Option Place → Height × Entry → Open → Open
+abbrev pub with_call : Option Place → Height × Entry × ℕ → Open → Open
 with_call None c cs = c ∷ cs
 with_call (Some a) c cs = cs
 
@@ -204,10 +220,10 @@ module _ {O : Type 0} where
   answers_to p x cs = None
 
   -- which are open after it
-  abbrev pub calls_after : Place → What O → Open → Open
-  calls_after p (Out h down i) cs = with_call (rise_to h p) (h, i) cs
-  calls_after p (Back h a) cs = without_call (rise_to h p) cs
-  calls_after p x cs = cs
+  abbrev pub calls_after : Tree O → Place → What O → Open → Open
+  calls_after T p (Out h down i) cs = with_call (rise_to h p) (h, i, depth_of (T p)) cs
+  calls_after T p (Back h a) cs = without_call (rise_to h p) cs
+  calls_after T p x cs = cs
 
 -- where a program waits for an answer, its call is open
 abbrev pub pending : Wait → Open → Open
@@ -232,7 +248,7 @@ pub data Chain {O S : Type 0} (step : Tree O → S → Wait → Event O → S �
   none : {cs : Open} {T : Tree O} {o : S} → Chain step cs T o [] cs T o
   more : {cs ds : Open} {T V : Tree O} {o u z : S} {ev : Event O} {τ : List (Event O)} →
       step T o (answers_to ev.place ev.what cs) ev u →
-      Chain step (calls_after ev.place ev.what cs) (effect ev.place ev.what T) u τ ds V z →
+      Chain step (calls_after T ev.place ev.what cs) (effect ev.place ev.what T) u τ ds V z →
       Chain step cs T o (ev ∷ τ) ds V z
 
 -- the world in which just this is yet to happen

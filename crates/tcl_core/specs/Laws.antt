@@ -1,21 +1,23 @@
 -- The laws. They hold whatever the commands are: `prog` is their table.
 use Rattle.std.specs.Prelude.{length, nat_le, ◌≡◌, ◌⊎◌, ℕ, zero, suc, ◌≤◌, ◌+◌, Bool, true, false}
-use Rattle.std.specs.Prelude.{List, [], ◌∷◌, ◌++◌, Option, Some, None}
+use Rattle.std.specs.Prelude.{List, [], ◌∷◌, ◌++◌, ◌&&◌, Option, Some, None}
 use Rattle.tcl_core.specs.Paths.{Path, Place, Height, strip, rise_to}
 use Rattle.tcl_core.specs.Endings.{Meter, Completion, Reply, IsQuit}
 use Rattle.tcl_core.specs.Endings.Meter.{Count, Depth}
 use Rattle.tcl_core.specs.Endings.Reply.{Stop, Cut}
-use Rattle.tcl_core.specs.Entries.{Entry, Said}
+use Rattle.tcl_core.specs.Entries.{Entry, Said, Answer}
 use Rattle.tcl_core.specs.Entries.Answer.{Replied}
 use Rattle.tcl_core.specs.Trees.{asked, effect, Grant, Grants, Tree, Node, What, Event, Move, at}
-use Rattle.tcl_core.specs.Trees.{on_some}
+use Rattle.tcl_core.specs.Trees.{on_some, depth_of}
 use Rattle.tcl_core.specs.Trees.Grants.{Listed, Budget}
 use Rattle.tcl_core.specs.Trees.Move.{Born, Fall, Enter, Come}
 use Rattle.tcl_core.specs.Trees.What.{Charged, Refused, Limited, Made, Dropped, Out, In, Done, Back}
+use Rattle.tcl_core.specs.Trees.What.{Unfound}
 use Rattle.tcl_core.specs.Programs.{Act, Wrap, Wait, Deed, Prog, Table, spot, decide, opens}
 use Rattle.tcl_core.specs.Programs.Next.{On, Off}
 use Rattle.tcl_core.specs.Programs.Prog.{act, go, inside, call, wait}
-use Rattle.tcl_core.specs.Runs.{World, Ending, Step, Runs, Visits, carried, reached, fits}
+use Rattle.tcl_core.specs.Runs.{World, Ending, Step, Runs, Visits, gone, gone_from, returned}
+use Rattle.tcl_core.specs.Runs.{reached, fits}
 use Rattle.tcl_core.specs.Views.{grants_of, moves_of, steps_of, view, inside_of}
 use Rattle.tcl_core.specs.Tables.{Discipline, Keeps_to, IsGood, AreTame, AreAllowed, exposes}
 use Rattle.tcl_core.specs.Tables.{hostless, sets_limit, unlimiting}
@@ -184,6 +186,28 @@ Isolation O I = (prog : Table O I) (c : Place) (w v : World O) (t : Path) (i : E
     React prog (at w.tree c) (moves_of (view c w.tape)) m
     (outcome_of (view c w.tape) Outcome.Finished) (outs_of (view c w.tape)) (at v.tree c)
 
+-- it stops with nothing in progress, or at an open call
+abbrev pub IsOpenOrDone : Outcome → Type 0
+IsOpenOrDone Finished = Unit {0}
+IsOpenOrDone Waiting = Unit {0}
+IsOpenOrDone x = Prim.⊥
+
+-- The same up to where c is dropped, it or one above it: what an evaluation does in the subtree at
+-- c until then is what React does with that subtree alone and the crossings into it until then,
+-- with every budget that is not less than the steps made in it. It has done what it was asked for,
+-- or it waits at a call that is open; and what it leaves is the subtree that stood at c when it was
+-- dropped.
+abbrev pub IsolationToDrop : Type 0 → Type 0 → Type 0
+IsolationToDrop O I = (prog : Table O I) (c : Place) (w v : World O) (t : Path) (i : Entry)
+    (r : Reply) (m : ℕ) (before later : List (Event O)) (d z : Place) (n : Node O) →
+    Visits prog (Runs prog) w None t i v (Some r) → v.moves ≡ [] → v.tape ≡ [] →
+    w.tape ≡ before ++ record { place = d; what = Dropped } ∷ later → strip d c ≡ Some z →
+    w.tree c ≡ Some n → IsSpared c before → IsHeld c w.moves →
+    IsUnended (view c before) → steps_of (view c before) ≤ m →
+    (x : Outcome) × IsOpenOrDone x ×
+    React prog (at w.tree c) (moves_of (view c before)) m x (outs_of (view c before))
+    (at (after before w.tree) c)
+
 -- an interpreter but for its count and its depth
 abbrev pub bare : {O : Type 0} → Node O → Node O
 bare n = record n { count = 0; depth = 0 }
@@ -224,6 +248,7 @@ turn_in q (Done h r) = goes_out (rise_to h q)
 turn_in q (Out h down i) = goes_out (rise_to h q)
 turn_in q (Made o s) = life_at q
 turn_in q Dropped = life_at q
+turn_in q (Unfound t i c) = life_at q
 turn_in q _ = Inside
 
 abbrev pub turn_at : {O : Type 0} → Option Place → What O → Turn
@@ -386,14 +411,28 @@ pub record Passing (O I : Type 0) : Type 0 where
   -- where a call within the tree is answered so, as its caller is told it
   pub called : (prog : Table O I) (w u z v : World O) (p a t : Place) (h : Height) (down : Path)
       (i : Entry) (lost : Completion) (k : Said → Prog O I) (r : Reply) (e : Ending) →
-      IsQuit (carried h p down r) → rise_to h p ≡ Some a → Step w p (Out h down i) u →
+      IsQuit (returned u.tree z.tree h p down r) → rise_to h p ≡ Some a →
+      Step w p (Out h down i) u →
       reached u.tree a down ≡ Some t →
       Visits prog (Runs prog) u (Some (length down)) t i z (Some r) →
-      Runs prog w p (call h down i lost k) v e → e ≡ Some (carried h p down r)
+      Runs prog w p (call h down i lost k) v e →
+      e ≡ Some (returned u.tree z.tree h p down r)
+  -- where the interpreter of the caller, or one above it, is gone by then, the whole ends, whatever
+  -- was answered
+  pub ousted : (prog : Table O I) (w u z v : World O) (p a t : Place) (h : Height) (down : Path)
+      (i : Entry) (lost : Completion) (k : Said → Prog O I) (r : Reply) (e : Ending) (n : ℕ) →
+      rise_to h p ≡ Some a → Step w p (Out h down i) u → reached u.tree a down ≡ Some t →
+      Visits prog (Runs prog) u (Some (length down)) t i z (Some r) →
+      gone (depth_of (u.tree p)) z.tree p ≡ Some n → Runs prog w p (call h down i lost k) v e →
+      (q : Reply) × IsQuit q × (e ≡ Some q)
+  -- and a call that left the tree is then answered by no completion and by no word of the host
+  pub ousted_outside : (T : Tree O) (p : Place) (s : Wait) (y : Answer) (n : ℕ) →
+      gone_from s T p ≡ Some n → fits T p s (Come y) ≡ true →
+      (q : Reply) × IsQuit q × (y ≡ Replied q)
   -- and where one that left the tree is
   pub answered : (prog : Table O I) (w v : World O) (p : Place) (s : Wait) (k : Said → Prog O I)
       (ms : List (Move O)) (r : Reply) (e : Ending) →
-      IsQuit r → w.moves ≡ Come (Replied r) ∷ ms → fits {O = O} s (Come (Replied r)) ≡ true →
+      IsQuit r → w.moves ≡ Come (Replied r) ∷ ms → fits w.tree p s (Come (Replied r)) ≡ true →
       Runs prog w p (wait s k) v e → e ≡ Some r
 
 -- Where an entry is ended from outside, what is told before that is a beginning of what React
@@ -408,11 +447,6 @@ IsolationUntil O I = (prog : Table O I) (c : Place) (w v : World O) (t : Path) (
     React prog (at w.tree c) (moves_of before) m x outs V → (more : List (Event O)) ×
     (outs ≡ outs_of before ++ more)
 
--- how many evaluations are in progress in an interpreter; none where none stands
-abbrev pub depth_of : {O : Type 0} → Option (Node O) → ℕ
-depth_of None = 0
-depth_of (Some n) = n.depth
-
 abbrev pub Beneath : {O : Type 0} → Option (Node O) → Option (Node O) → Type 0
 Beneath a None = Unit {0}
 Beneath None (Some n) = Prim.⊥
@@ -422,17 +456,73 @@ Beneath (Some m) (Some n) = n.depth ≤ m.depth
 abbrev pub IsUpright : {O : Type 0} → Tree O → Type 0
 IsUpright T = (p q z : Place) → strip p q ≡ Some z → Beneath (T p) (T q)
 
--- After a run that came to its end each depth is what it was; and what is in use at first is
--- neither made nor dropped by it, whether it came to its end or not. So an interpreter in use
--- stands as long as it is in use.
+-- whether neither c nor one above it is dropped
+abbrev pub none_there : Option Place → Bool
+none_there None = true
+none_there (Some z) = false
+
+abbrev pub spares : {O : Type 0} → Place → Place → What O → Bool
+spares c p Dropped = none_there (strip p c)
+spares c p x = true
+
+abbrev pub is_spared : {O : Type 0} → Place → List (Event O) → Bool
+is_spared c [] = true
+is_spared c (ev ∷ τ) = spares c ev.place ev.what && is_spared c τ
+
+-- what is left of a depth where it is spared, and where it isn't
+abbrev pub depth_left : Bool → ℕ → ℕ
+depth_left true d = d
+depth_left false d = 0
+
+-- After a run that came to its end each depth is what it was where neither the interpreter nor one
+-- above it was dropped on the way, and 0 where one was: whoever was made anew there is not in use.
+-- So an interpreter in use that isn't dropped stands as long as it is in use, and where nothing was
+-- in progress nothing is: of what was dropped in use nothing is left. What is in use at first and
+-- isn't dropped isn't made either, whether the run came to its end or not.
 pub record IsSteady {O : Type 0} (w v : World O) (e : Ending) : Type 0 where
-  pub depths : (r : Reply) → e ≡ Some r → (q : Place) → depth_of (v.tree q) ≡ depth_of (w.tree q)
+  pub made : List (Event O)
+  pub happened : w.tape ≡ made ++ v.tape
+  pub depths : (r : Reply) → e ≡ Some r → (q : Place) →
+      depth_of (v.tree q) ≡ depth_left (is_spared q made) (depth_of (w.tree q))
   pub upright : (r : Reply) → e ≡ Some r → IsUpright v.tree
-  pub standing : (c : Place) → 1 ≤ depth_of (w.tree c) → IsStanding c v.tape → IsStanding c w.tape
+  pub standing : (c : Place) → 1 ≤ depth_of (w.tree c) → is_spared c made ≡ true →
+      IsStanding c made
 
 abbrev pub Steady : Type 0 → Type 0 → Type 0
 Steady O I = (prog : Table O I) (w v : World O) (p : Place) (x : Prog O I) (e : Ending) →
     Runs prog w p x v e → IsUpright w.tree → KeepsTop w.moves → IsSteady w v e
+
+-- How many levels up from q the highest interpreter is that is dropped by these, of that at q and
+-- those above it; none where none of them is.
+abbrev pub fallen : Option Place → Option ℕ
+fallen None = None
+fallen (Some z) = Some (length z)
+
+abbrev pub fall_at : {O : Type 0} → Place → Place → What O → Option ℕ
+fall_at q p Dropped = fallen (strip p q)
+fall_at q p x = None
+
+abbrev pub farther : Bool → ℕ → ℕ → ℕ
+farther true n m = m
+farther false n m = n
+
+abbrev pub higher : Option ℕ → Option ℕ → Option ℕ
+higher None b = b
+higher (Some n) None = Some n
+higher (Some n) (Some m) = Some (farther (nat_le n m) n m)
+
+abbrev pub highest : {O : Type 0} → Place → List (Event O) → Option ℕ
+highest q [] = None
+highest q (ev ∷ τ) = higher (fall_at q ev.place ev.what) (highest q τ)
+
+-- Who is gone after a run is who was dropped in it: where an interpreter was in use at first, the
+-- depths that are left tell whether it, or one above it, was dropped, and which is the highest.
+abbrev pub GoneIsDropped : Type 0 → Type 0 → Type 0
+GoneIsDropped O I = (prog : Table O I) (w v : World O) (p : Place) (x : Prog O I) (r : Reply) →
+    Runs prog w p x v (Some r) → IsUpright w.tree → KeepsTop w.moves →
+    (made : List (Event O)) × (w.tape ≡ made ++ v.tape) ×
+    ((q : Place) → 1 ≤ depth_of (w.tree q) →
+    gone (depth_of (w.tree q)) v.tree q ≡ highest q made)
 
 -- below a safe interpreter all are safe; and the one at c is
 abbrev pub IsSafeBelow : {O : Type 0} → Tree O → Type 0

@@ -12,3 +12,4 @@ pub mod Meaning
 pub mod Laws
 pub mod Tables
 pub mod Example
+pub mod Deletion

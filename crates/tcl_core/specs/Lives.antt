@@ -3,7 +3,7 @@
 use Rattle.std.specs.Prelude.{◌≡◌, ℕ, zero, suc, ℤ, Bool, true, false, nat_lt, ◌+◌, List, [], ◌∷◌}
 use Rattle.std.specs.Prelude.{◌++◌, Option, Some, None, length}
 use Rattle.tcl_core.specs.Paths.{Text, Path, Place, rise_to}
-use Rattle.tcl_core.specs.Endings.{Meter, Completion, Reply, Cause, ok, refusal}
+use Rattle.tcl_core.specs.Endings.{Kind, Completion, Reply, Cause, ok, refusal}
 use Rattle.tcl_core.specs.Endings.Meter.{Count}
 use Rattle.tcl_core.specs.Endings.Reply.{Completed, Stop, Exit, Cut}
 use Rattle.tcl_core.specs.Endings.Cause.{Above, Over}
@@ -12,7 +12,7 @@ use Rattle.tcl_core.specs.Entries.Entry.{Eval}
 use Rattle.tcl_core.specs.Entries.Answer.{Replied}
 use Rattle.tcl_core.specs.Trees.{Node, Tree, What, Event, Move, at, on_node, with_limit}
 use Rattle.tcl_core.specs.Trees.Grants.{Budget}
-use Rattle.tcl_core.specs.Trees.What.{Refused, Out, In, Done, Back}
+use Rattle.tcl_core.specs.Trees.What.{Refused, Out, In, Done, Back, Unfound}
 use Rattle.tcl_core.specs.Trees.Move.{Enter, Come}
 use Rattle.tcl_core.specs.Programs.{Wait, Prog, Table}
 use Rattle.tcl_core.specs.Programs.Prog.{done, wait}
@@ -30,7 +30,8 @@ never s = done (ok [])
 abbrev pub Lives : {O I : Type 0} → Table O I → World O → World O → Ending → Type 0
 Lives prog w v e = Runs prog w [] (wait idle never) v e
 
--- what is told to the outside: the calls that leave the tree, and how its entries ended
+-- what is told to the outside: the calls that leave the tree, and how its entries ended, those too
+-- that found nobody
 abbrev pub put : {O : Type 0} → Option Place → Place → What O → List (Event O) → List (Event O)
 put None p x τ = record { place = p; what = x } ∷ τ
 put (Some a) p x τ = τ
@@ -38,6 +39,7 @@ put (Some a) p x τ = τ
 abbrev pub told : {O : Type 0} → Place → What O → List (Event O) → List (Event O)
 told p (Out h down i) τ = put (rise_to h p) p (Out h down i) τ
 told p (Done h r) τ = put (rise_to h p) p (Done h r) τ
+told p (Unfound t i c) τ = record { place = t; what = Done None (Completed c) } ∷ τ
 told p _ τ = τ
 
 abbrev pub outs_of : {O : Type 0} → List (Event O) → List (Event O)
@@ -64,6 +66,7 @@ last_of (Some a) r x = x
 -- the outcome that the last entry's end gives; x where there is none
 abbrev pub outcome_at : {O : Type 0} → Place → What O → Outcome → Outcome
 outcome_at p (Done h r) x = last_of (rise_to h p) r x
+outcome_at p (Unfound t i c) x = Outcome.Finished
 outcome_at p _ x = x
 
 abbrev pub outcome_of : {O : Type 0} → List (Event O) → Outcome → Outcome
@@ -82,7 +85,7 @@ abbrev pub IsUncut : {O : Type 0} → List (Event O) → Type 0
 IsUncut [] = Unit {0}
 IsUncut (ev ∷ τ) = Uncut ev.place ev.what × IsUncut τ
 
--- the entries from outside that begin here, and those that end
+-- the entries from outside that begin here, and those that end: one that finds nobody does neither
 abbrev pub one_more : Option Place → ℕ → ℕ
 one_more None n = suc n
 one_more (Some a) n = n
@@ -187,11 +190,11 @@ pub record React {O I : Type 0} (prog : Table O I) (S : Tree O) (ms : List (Move
 -- how a whole evaluation ends
 pub data End : Type 0 where
   Completed_as : (completion : Completion) → End
-  Stopped : (meter : Meter) → End
+  Stopped : (kind : Kind) → End
   Exits : (status : ℤ) → End
 
 -- A stop that names an interpreter below the root is its error; one that names the root is a stop.
-abbrev pub stops_below : Bool → Meter → End
+abbrev pub stops_below : Bool → Kind → End
 stops_below true m = Completed_as (refusal m)
 stops_below false m = Stopped m
 

@@ -1,14 +1,16 @@
 -- What a command is: a program over a few acts. I is what can be going on inside an interpreter: a
 -- script, the commands that are left, a turn of a loop and so on.
 use Rattle.std.specs.Prelude.{ℕ, zero, suc, ℤ, Bool, true, false, [], ◌∷◌, ◌++◌, Option, Some, None}
-use Rattle.std.specs.Prelude.{nat_le, length}
+use Rattle.std.specs.Prelude.{nat_le, nat_lt, length}
 use Rattle.tcl_core.specs.Paths.{Text, Path, Place, Height}
 use Rattle.tcl_core.specs.Endings.{Meter, Completion, Reply}
 use Rattle.tcl_core.specs.Endings.Meter.{Count, Depth}
+use Rattle.tcl_core.specs.Endings.Kind.{Full}
 use Rattle.tcl_core.specs.Endings.Reply.{Stop, Cut}
 use Rattle.tcl_core.specs.Endings.Cause.{Above, Over}
 use Rattle.tcl_core.specs.Entries.{Entry, Said}
-use Rattle.tcl_core.specs.Trees.{Grants, Node, Tree, What}
+use Rattle.tcl_core.specs.Entries.Said.{Finished, Missed}
+use Rattle.tcl_core.specs.Trees.{Grants, Node, Tree, What, depth_of}
 use Rattle.tcl_core.specs.Trees.Grant.{Allow, Deny}
 use Rattle.tcl_core.specs.Trees.Grants.{Listed, Budget}
 use Rattle.tcl_core.specs.Trees.What.{Seen, Changed, Charged, Refused, Nested, Unnested, Limited}
@@ -21,7 +23,7 @@ pub data Act (O : Type 0) : Type 0 where
   Charge : Act O
   Limit : (limit : Option ℕ) → Act O
   LimitDepth : (limit : ℕ) → Act O
-  -- a child is made, if none has the name; dropped, if no evaluation is in progress in it
+  -- a child is made, if none has the name; dropped, if one has
   Make : (name : Text) (own : O) (safe : Bool) → Act O
   Drop : (name : Text) → Act O
 
@@ -31,9 +33,10 @@ pub data Wrap (O : Type 0) : Type 0 where
   Deeper : Wrap O
   Framed : (own : O) (back : O → O) → Wrap O
 
--- The call that waits for its answer, how far up it goes; none where control waits at the top.
+-- The call that waits for its answer: how far up it goes, what it asks for, and how many
+-- evaluations were in progress where it is made; none where control waits at the top.
 abbrev pub Wait : Type 0
-Wait = Option (Height × Entry)
+Wait = Option (Height × Entry × ℕ)
 
 -- A program ends by a completion or an exit. It goes on after an act, told the subtree as it stood;
 -- after an inner evaluation that completed; or after a call that was answered. Stops, exits and
@@ -45,9 +48,15 @@ pub data Prog (O I : Type 0) : Type 0 where
   go : I → (Completion → Prog O I) → Prog O I
   inside : Wrap O → I → (Completion → Prog O I) → Prog O I
   -- to the interpreter so many levels up and these names down, or to the host; `lost` is the
-  -- completion where it doesn't stand
+  -- completion where nobody stands there
   call : Height → (down : Path) → Entry → (lost : Completion) → (Said → Prog O I) → Prog O I
   wait : Wait → (Said → Prog O I) → Prog O I
+
+-- How a program goes on after a call that left the tree: where nobody is there, by the call's own
+-- `lost`.
+abbrev pub or_lost : {O I : Type 0} → Completion → (Said → Prog O I) → Said → Prog O I
+or_lost lost k Missed = k (Finished lost)
+or_lost lost k said = k said
 
 -- A program calls, and doesn't wait without a call. (A program that waits for an answer is what a
 -- run makes of a call.)
@@ -61,12 +70,11 @@ Calls_only (call h down i lost k) = (s : Said) → Calls_only (k s)
 Calls_only (wait s k) = Prim.⊥
 
 -- What the interpreters' commands are: the program of each instruction and of each entry, and what
--- an entry into no interpreter is told (its path is put in where that is shown). All of them call,
--- and none waits.
+-- an entry from outside is told whose path finds nobody. All programs call, and none waits.
 pub record Table (O I : Type 0) : Type 0 where
   pub program : I → Prog O I
   pub entry : Entry → Prog O I
-  pub lost : Completion
+  pub lost : Path → Completion
   pub programs_call : (i : I) → Calls_only (program i)
   pub entries_call : (i : Entry) → Calls_only (entry i)
 
@@ -123,9 +131,9 @@ spot p (Some name) = p ++ name ∷ []
 
 -- A limit refuses. An interpreter's own depth limit is an error there; all else is a stop.
 abbrev pub by_limit : Meter → ℕ → Next
-by_limit Count n = Off (Stop n Count)
+by_limit Count n = Off (Stop n (Full Count))
 by_limit Depth zero = TooDeep
-by_limit Depth (suc n) = Off (Stop (suc n) Depth)
+by_limit Depth (suc n) = Off (Stop (suc n) (Full Depth))
 
 module _ {O : Type 0} where
   abbrev pub by_grant : Meter → What O → Grants → Option (Deed O)
@@ -151,13 +159,10 @@ module _ {O : Type 0} where
   making name o s (Some p) None = (Some name, Made o (either s p.safe), On)
   making name o s (Some p) (Some n) = (None, Seen, On)
 
-  abbrev pub dropping_at : Text → ℕ → Deed O
-  dropping_at name zero = (Some name, Dropped, On)
-  dropping_at name (suc d) = (None, Seen, On)
-
+  -- whether it is in use or not
   abbrev pub dropping : Text → Option (Node O) → Deed O
   dropping name None = (None, Seen, On)
-  dropping name (Some n) = dropping_at name n.depth
+  dropping name (Some n) = (Some name, Dropped, On)
 
   -- what happens when the act is done at p; none where a word of the outside is wanted and there is
   -- none
@@ -175,11 +180,13 @@ module _ {O : Type 0} where
   opens Deeper T p gs = metered Depth Nested (blocked is_deep T p) gs
   opens (Framed o back) T p gs = Some (changing o (T p))
 
-  -- and what it does after
-  abbrev pub brought_back : (O → O) → Option (Node O) → What O
-  brought_back back None = Seen
-  brought_back back (Some n) = Changed (back n.own)
+  -- And what it does after. Frames are brought back where the same interpreter stands as before:
+  -- one that is in use less deeply was made anew.
+  abbrev pub brought_back : Bool → (O → O) → Option (Node O) → What O
+  brought_back b back None = Seen
+  brought_back true back (Some n) = Seen
+  brought_back false back (Some n) = Changed (back n.own)
 
-  abbrev pub closes : Wrap O → Option (Node O) → What O
-  closes Deeper n = Unnested
-  closes (Framed o back) n = brought_back back n
+  abbrev pub closes : Wrap O → Option (Node O) → Option (Node O) → What O
+  closes Deeper m n = Unnested
+  closes (Framed o back) m n = brought_back (nat_lt (depth_of n) (depth_of m)) back n

@@ -4,11 +4,12 @@
 use Rattle.std.specs.Prelude.{ℕ, suc, pred, Bool, true, false, List, [], ◌∷◌, ◌++◌, Option, Some}
 use Rattle.std.specs.Prelude.{None, nat_lt, length}
 use Rattle.tcl_core.specs.Paths.{Path, Place, Height, strip, rise_to, seen_height}
-use Rattle.tcl_core.specs.Endings.{Meter, Reply}
+use Rattle.tcl_core.specs.Endings.{Meter, Kind, Completion, Reply}
+use Rattle.tcl_core.specs.Endings.Kind.{Full, Gone}
 use Rattle.tcl_core.specs.Endings.Reply.{Stop, Cut}
 use Rattle.tcl_core.specs.Endings.Cause.{Above}
 use Rattle.tcl_core.specs.Entries.{Entry, Answer}
-use Rattle.tcl_core.specs.Entries.Answer.{Replied, Heard}
+use Rattle.tcl_core.specs.Entries.Answer.{Replied, Heard, Nobody}
 
 -- An interpreter: its own part, which its own commands may change; whether it is safe, and whether
 -- it is the root of its tree, which stay; and its meters, which only their own happenings move.
@@ -20,6 +21,11 @@ pub record Node (O : Type 0) : Type 0 where
   pub limit : Option ℕ
   pub depth : ℕ
   pub depth_limit : ℕ
+
+-- how many evaluations are in progress in an interpreter and below it; none where none stands
+abbrev pub depth_of : {O : Type 0} → Option (Node O) → ℕ
+depth_of None = 0
+depth_of (Some n) = n.depth
 
 -- the interpreters, by their places
 abbrev pub Tree : Type 0 → Type 0
@@ -57,6 +63,9 @@ pub data What (O : Type 0) : Type 0 where
   -- an entry comes in, from so many levels up or from outside the tree; and its reply goes there
   In : (height : Height) (entry : Entry) → What O
   Done : (height : Height) (reply : Reply) → What O
+  -- An entry from outside finds nobody at its path, and is told this completion. It happens at the
+  -- top of the tree, where the path is read: so in no subtree below.
+  Unfound : (path : Path) (entry : Entry) (completion : Completion) → What O
 
 pub record Event (O : Type 0) : Type 0 where
   pub place : Place
@@ -155,6 +164,7 @@ module _ {O : Type 0} where
   asked p (Back h a) ms = where_none (rise_to h p) (Come a) ms
   asked p (Made o s) ms = at_top p (Born o s) ms
   asked p Dropped ms = at_top p Fall ms
+  asked p (Unfound t i c) ms = Enter t i ∷ ms
   asked p _ ms = ms
 
 -- what the outside says to a step that is to be counted, or an evaluation that is to begin
@@ -193,20 +203,29 @@ abbrev pub paid : {O : Type 0} → What O → ℕ → ℕ
 paid Charged b = suc b
 paid _ b = b
 
--- a reply as it is seen in a tree where it is told at q: a stop that names one above the top cuts
--- off from outside
+-- A reply as it is seen in a tree where it is told at q. A stop for the limit of one above the top
+-- cuts off from outside; where one above the top is gone, the top is.
 abbrev pub stopped : Bool → ℕ → Meter → Reply
 stopped true n m = Cut Above
-stopped false n m = Stop n m
+stopped false n m = Stop n (Full m)
+
+abbrev pub nearest : Bool → ℕ → ℕ → ℕ
+nearest true l n = l
+nearest false l n = n
+
+abbrev pub seen_stop : ℕ → ℕ → Kind → Reply
+seen_stop l n (Full m) = stopped (nat_lt l n) n m
+seen_stop l n Gone = Stop (nearest (nat_lt l n) l n) Gone
 
 abbrev pub seen_reply : List (List ℕ) → Reply → Reply
-seen_reply q (Stop n m) = stopped (nat_lt (length q) n) n m
+seen_reply q (Stop n k) = seen_stop (length q) n k
 seen_reply q (Cut c) = Cut Above
 seen_reply q r = r
 
 abbrev pub seen_answer : List (List ℕ) → Answer → Answer
 seen_answer q (Replied r) = Replied (seen_reply q r)
 seen_answer q (Heard a) = Heard a
+seen_answer q Nobody = Nobody
 
 -- a happening as it is seen in a tree where it is at q
 abbrev pub seen_what : {O : Type 0} → List (List ℕ) → What O → What O

@@ -3,10 +3,12 @@
 //! for every table of commands.
 #![tactic(auto)]
 
-ghost use Rattle.tcl_core.specs.Example.{WorkedLife, WorkedReactions};
+ghost use Rattle.tcl_core.specs.Deletion.{WorkedDeletion};
+ghost use Rattle.tcl_core.specs.Example.{WorkedLife, WorkedReactions, WorkedUnfound};
 ghost use Rattle.tcl_core.specs.Laws.{AllAgree, Bounded, Counting, Determinism, Disciplined};
-ghost use Rattle.tcl_core.specs.Laws.{Happenings, Inner, Isolation, IsolationUntil, Limiting};
-ghost use Rattle.tcl_core.specs.Laws.{LimitsKept, LivesWithin, Moments, MoreMoves, NonInterference};
+ghost use Rattle.tcl_core.specs.Laws.{GoneIsDropped, Happenings, Inner, Isolation};
+ghost use Rattle.tcl_core.specs.Laws.{IsolationToDrop, IsolationUntil, Limiting, LimitsKept};
+ghost use Rattle.tcl_core.specs.Laws.{LivesWithin, Moments, MoreMoves, NonInterference};
 ghost use Rattle.tcl_core.specs.Laws.{NoRequests, OneReaction, Passing, QuietOutside, Steady};
 ghost use Rattle.tcl_core.specs.Laws.{Stopping, TwoWorlds, Untouched};
 ghost use Rattle.tcl_core.specs.Meaning.{RulesAreRuns, ExecutionsAreRuns, Unrolling};
@@ -90,6 +92,12 @@ pub fn isolation_until<O, I>()
     ensures { IsolationUntil O I }
 {}
 
+/// Up to where a subtree is dropped, what is done in it is what it does alone with the crossings
+/// into it until then.
+pub fn isolation_to_drop<O, I>()
+    ensures { IsolationToDrop O I }
+{}
+
 /// From an entry into a subtree to the next call or end that leaves it, nothing outside it changes.
 pub fn quiet_outside<O, I>()
     ensures { QuietOutside O I }
@@ -116,6 +124,11 @@ pub fn disciplined<O, I>()
 /// After a run each depth is what it was, and what was in use still stands.
 pub fn steady<O, I>()
     ensures { Steady O I }
+{}
+
+/// Who is gone after a run is who was dropped in it, and the depths that are left tell it.
+pub fn gone_is_dropped<O, I>()
+    ensures { GoneIsDropped O I }
 {}
 
 /// A safe interpreter in whose subtree nobody has a host command asks the host for nothing, where
@@ -161,4 +174,14 @@ pub fn worked_life()
 /// what it did not ask for.
 pub fn worked_reactions()
     ensures { WorkedReactions }
+{}
+
+/// A worked life in which an entry from outside finds nobody.
+pub fn worked_unfound()
+    ensures { WorkedUnfound }
+{}
+
+/// Worked lives in which an interpreter is deleted while it is in use.
+pub fn worked_deletion()
+    ensures { WorkedDeletion }
 {}

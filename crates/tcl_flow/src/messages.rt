@@ -7,6 +7,9 @@ use std::alloc::{AllocError, Global};
 use tcl_text::text::Text;
 use tcl_value::value::Value;
 
+/// An interpreter was deleted while an evaluation was in progress in it (310).
+pub const DELETED: &str = "interpreter was deleted";
+
 /// The value of a text of few bytes.
 pub(crate) fn short_value(alloc: Global, text: String) -> Result<Value, AllocError>
     requires { length (string_bytes text) ≤ 100 }

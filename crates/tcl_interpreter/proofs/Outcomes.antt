@@ -1,5 +1,5 @@
 -- Lemmas on results and options.
-use Rattle.std.proofs.Common.{◌≡◌, true, false, Option, Some, None}
+use Rattle.std.proofs.Common.{◌≡◌, true, false, Some, None}
 use Rattle.std.specs.Prelude.{Result, Ok, Err, OnOk, IfOk, IsOk}
 
 pub clash : {A : Type 0} (a : A) → None ≡ Some a → Prim.⊥

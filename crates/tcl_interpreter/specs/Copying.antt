@@ -1,5 +1,5 @@
 -- Copies of an interpreter.
-use Rattle.std.specs.Prelude.{◌≡◌, ℕ, List, [], Option}
+use Rattle.std.specs.Prelude.{◌≡◌, ℕ, false, List, [], Option}
 use Rattle.tcl_interpreter.specs.Paths.{Text}
 use Rattle.tcl_interpreter.specs.Nodes.{state_view}
 use Rattle.tcl_interpreter.specs.declared.node.Node.{Node}
@@ -9,5 +9,6 @@ pub record IsBare (old made : Node) (above : Option ℕ) (label : Text) : Type 0
   pub parent : made.parent ≡ above
   pub name : made.name ≡ label
   pub level : made.level ≡ old.level
+  pub stands : made.gone ≡ false
   pub leaf : made.children.entries ≡ []
   pub state : (names : List Text) → state_view made.state names ≡ state_view old.state names

@@ -1,6 +1,6 @@
 -- What a contract sees of an interpreter, and of one more or one less in a table.
 use Rattle.std.specs.Prelude.{◌≡◌, ◌≢◌, ℕ, suc, pred, Bool, true, false, cond, List, [], ◌∷◌, ◌++◌}
-use Rattle.std.specs.Prelude.{Option, Some, None}
+use Rattle.std.specs.Prelude.{Option, Some, None, ◌==◌, ◌<◌, ◌≤◌}
 use Rattle.std.specs.Option.{option_map}
 use Rattle.std.specs.Str.{bytes_eq}
 use Rattle.indexmap.specs.IndexMap.{get, keys}
@@ -72,7 +72,7 @@ without_child n v = record v { own = without_old_child n v.own }
 
 -- a node but for the room of its maps
 abbrev pub Shape : Type 0
-Shape = Option ℕ × Text × ℕ × List (Text × ℕ) × NodeView
+Shape = Option ℕ × Text × ℕ × List (Text × ℕ) × NodeView × Bool
 
 abbrev pub shape_of : Node → Shape
 shape_of node = (
@@ -82,6 +82,7 @@ shape_of node = (
   node.children.entries,
   state_view node.state
       [],
+  node.gone,
 )
 
 abbrev pub shape_at : Slab Node → ℕ → Option Shape
@@ -103,6 +104,7 @@ pub record Attached (s t : Slab Node) (pk : ℕ) (label : Text) (node : Node) : 
   pub parent : new.parent ≡ old.parent
   pub name : new.name ≡ old.name
   pub level : new.level ≡ old.level
+  pub stands : new.gone ≡ old.gone
   pub view : view_of new ≡ with_child label (view_of old)
   pub gets : (q : Text) → get bytes_eq new.children q
       ≡ cond (bytes_eq label q) (Some key) (get bytes_eq old.children q)
@@ -120,7 +122,9 @@ pub record Joined (s t : Slab Node) (pk : ℕ) (label : Text) (node : Node) (key
   pub parent : new.parent ≡ old.parent
   pub name : new.name ≡ old.name
   pub level : new.level ≡ old.level
+  pub stands : new.gone ≡ old.gone
   pub safe : new.state.safe ≡ old.state.safe
+  pub depth : new.state.depth ≡ old.state.depth
   pub names : keys new.children ≡ keys old.children ++ label ∷ []
   pub gets : (q : Text) → get bytes_eq new.children q
       ≡ cond (bytes_eq label q) (Some key) (get bytes_eq old.children q)
@@ -136,7 +140,38 @@ pub record Detached (s t : Slab Node) (key : ℕ) (node : Node) (pk : ℕ) : Typ
   pub parent : new.parent ≡ old.parent
   pub name : new.name ≡ old.name
   pub level : new.level ≡ old.level
+  pub stands : new.gone ≡ old.gone
   pub view : view_of new ≡ without_child node.name (view_of old)
   pub gets : (q : Text) → get bytes_eq new.children q
       ≡ cond (bytes_eq node.name q) None (get bytes_eq old.children q)
   pub others : (k : ℕ) → k ≢ pk → k ≢ key → slab.get t k ≡ slab.get s k
+
+-- What is left of a node that is taken out of the tree: where an evaluation is in progress in it,
+-- the node, which is gone; else nothing.
+abbrev pub left_by : Bool → Node → Option Node
+left_by true node = None
+left_by false node = Some (record node { gone = true })
+
+abbrev pub left_of : Node → Option Node
+left_of node = left_by (node.state.depth == 0) node
+
+-- t is s with that of the node under the key
+pub record Departed (s t : Slab Node) (key : ℕ) (node : Node) (pk : ℕ) : Type 0 where
+  pub middle : Slab Node
+  pub out : Detached s middle key node pk
+  pub left : slab.Updates middle t key (left_of node)
+
+-- a node with one level of depth less, in the same place
+pub record IsEased (old new : Node) : Type 0 where
+  pub parent : new.parent ≡ old.parent
+  pub name : new.name ≡ old.name
+  pub level : new.level ≡ old.level
+  pub children : new.children.entries ≡ old.children.entries
+  pub gone : new.gone ≡ old.gone
+  pub depth : new.state.depth ≡ pred old.state.depth
+
+-- t is s with that under the key; with nothing where that was the node's last level
+pub record Eased (s t : Slab Node) (key : ℕ) (node : Node) : Type 0 where
+  pub last : node.state.depth ≤ 1 → slab.get t key ≡ None
+  pub less : 1 < node.state.depth → (new : Node) × (slab.get t key ≡ Some new) × IsEased node new
+  pub others : (k : ℕ) → k ≢ key → slab.get t k ≡ slab.get s k

@@ -51,6 +51,7 @@ impl Node {
             name,
             level: self.level,
             children: IndexMap::new(alloc),
+            gone: false,
             state,
         })
     }

@@ -130,6 +130,9 @@ pub struct Node {
     pub level: u64,
     /// The keys of its children, by their names.
     pub children: IndexMap<Text, usize>,
+    /// Whether it was deleted while an evaluation was in progress in it or below it. Then it is no
+    /// child of its parent any more, and has none.
+    pub gone: bool,
     /// All the rest.
     pub state: State,
 }

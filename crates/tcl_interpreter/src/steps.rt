@@ -1,12 +1,12 @@
 //! Steps on the nodes alone.
-ghost use Rattle.std.specs.Prelude.{◌≡◌, ◌≢◌, ◌<◌, ◌+◌, ◌++◌, ◌∷◌, [], List, ℕ, cond, Some, None};
+ghost use Rattle.std.specs.Prelude.{◌≡◌, ◌≢◌, ◌<◌, ◌++◌, ◌∷◌, [], List, ℕ, cond, Some, None};
 ghost use Rattle.std.specs.Prelude.{OnOk, IfOk, IfSome, IsSome};
 ghost use Rattle.std.specs.Str.{bytes_eq};
-ghost use Rattle.slab.specs.Slab.{get, HasRoomFor, slab_len};
+ghost use Rattle.slab.specs.Slab.{get, HasRoomFor};
 ghost use Rattle.indexmap.specs.IndexMap as map;
 ghost use Rattle.tcl_interpreter.specs.declared.node.Node.{Node};
 ghost use Rattle.tcl_interpreter.specs.Nodes.{SameTable, Attached, Joined, Detached, shape_of};
-ghost use Rattle.tcl_interpreter.specs.Nodes.{view_of, with_child, without_child};
+ghost use Rattle.tcl_interpreter.specs.Nodes.{Departed, Eased, view_of, with_child, without_child};
 
 use crate::command::Command;
 use crate::node::Node;
@@ -49,6 +49,7 @@ fn add_child(up: &mut Node, label: Text, twin: Text, key: usize)
     ensures parent { up.new.parent ≡ up.old.parent }
     ensures name { up.new.name ≡ up.old.name }
     ensures level { up.new.level ≡ up.old.level }
+    ensures gone { up.new.gone ≡ up.old.gone }
     ensures view { view_of up.new ≡ with_child label (view_of up.old) }
     ensures gets { (q : List ℕ) →
         map.get bytes_eq up.new.children q
@@ -84,6 +85,7 @@ fn add_key(up: &mut Node, label: Text, key: usize) -> Result<(), AllocError>
     ensures parent { up.new.parent ≡ up.old.parent }
     ensures name { up.new.name ≡ up.old.name }
     ensures level { up.new.level ≡ up.old.level }
+    ensures gone { up.new.gone ≡ up.old.gone }
     ensures state { up.new.state ≡ up.old.state }
     ensures names { OnOk result
         (map.keys up.new.children ≡ map.keys up.old.children ++ label ∷ []) }
@@ -122,6 +124,7 @@ fn remove_child(up: &mut Node, name: &Text)
     ensures parent { up.new.parent ≡ up.old.parent }
     ensures name { up.new.name ≡ up.old.name }
     ensures level { up.new.level ≡ up.old.level }
+    ensures gone { up.new.gone ≡ up.old.gone }
     ensures view { view_of up.new ≡ without_child name.now (view_of up.old) }
     ensures gets { (q : List ℕ) →
         map.get bytes_eq up.new.children q
@@ -131,17 +134,55 @@ fn remove_child(up: &mut Node, name: &Text)
     up.state.commands.shift_remove(name);
 }
 
-/// Removes a node, and its name among the children and the commands of its parent.
-pub fn detach(nodes: &mut Slab<Node>, key: usize, parent: usize)
+// Removes a node, and its name among the children and the commands of its parent. There is room for
+// it under its key.
+fn take_out(nodes: &mut Slab<Node>, key: usize, parent: usize) -> Node
     requires there { IsSome (get nodes.old key) }
     requires parent { IsSome (get nodes.old parent) }
     requires apart { parent ≢ key }
-    ensures detached { (node : Node) → get nodes.old key ≡ Some node →
-        Detached nodes.old nodes.new key node parent }
-    ensures len { slab_len nodes.new + 1 ≡ slab_len nodes.old }
+    ensures node { get nodes.old key ≡ Some result }
+    ensures detached { Detached nodes.old nodes.new key result parent }
+    ensures next { nodes.new.vacant_key ≡ key }
+    ensures room { HasRoomFor nodes.new 1 }
 {
     let node = nodes.remove(key);
     if let Some(up) = nodes.get_mut(parent) {
         remove_child(up, &node.name);
+    }
+    node
+}
+
+/// Takes a node out of the children and the commands of its parent. Where no evaluation is in
+/// progress in it, it is removed; else it stays under its key, as one that is gone.
+pub fn detach(nodes: &mut Slab<Node>, key: usize, parent: usize)
+    requires there { IsSome (get nodes.old key) }
+    requires parent { IsSome (get nodes.old parent) }
+    requires apart { parent ≢ key }
+    ensures { (node : Node) → get nodes.old key ≡ Some node →
+        Departed nodes.old nodes.new key node parent }
+{
+    let mut node = take_out(nodes, key, parent);
+    if node.state.depth == 0 {
+        return;
+    }
+    node.gone = true;
+    nodes.insert_reserved(node);
+}
+
+/// Takes a level of depth from a node, and removes it where that was its last.
+pub fn ease(nodes: &mut Slab<Node>, key: usize)
+    requires there { IsSome (get nodes.old key) }
+    ensures eased { (node : Node) → get nodes.old key ≡ Some node →
+        Eased nodes.old nodes.new key node }
+{
+    let Some(node) = nodes.get(key) else {
+        unreachable!();
+    };
+    if node.state.depth <= 1 {
+        nodes.remove(key);
+        return;
+    }
+    if let Some(node) = nodes.get_mut(key) {
+        node.state.depth -= 1;
     }
 }

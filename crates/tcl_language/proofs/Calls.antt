@@ -28,7 +28,7 @@ served (Expose hidden name) = λ own o. any_named demands (λ own. tt) (exposed_
 served _ = tt
 
 goes : (i : Instr) → Goes demands i
-goes (Invoke words) = tt
+goes (Invoke is_global words) = tt
 goes _ = tt
 
 facts : Facts demands

@@ -10,7 +10,7 @@ use Rattle.tcl_core.specs.Entries.Entry.{Eval, CallWords, InvokeHidden, SetAlias
 use Rattle.tcl_core.specs.Entries.HostReply.{Opened, Line, TheEnd, TheRest, Is, Fails}
 use Rattle.tcl_core.specs.Entries.Question.{Exists, IsSafe, Aliases, AliasOf, Hidden as HiddenNames, Slaves, CountLimitOf, DepthLimitOf}
 use Rattle.tcl_core.specs.Entries.Request.{Write}
-use Rattle.tcl_core.specs.Entries.Said.{Finished, Told}
+use Rattle.tcl_core.specs.Entries.Said.{Finished, Told, Missed}
 use Rattle.tcl_core.specs.Paths.{Path, Text}
 use Rattle.tcl_core.specs.Programs.Act.{Limit, LimitDepth, Look}
 use Rattle.tcl_core.specs.Programs.Prog.{act, done, exit, go}
@@ -623,6 +623,7 @@ module _ (P : Demands) (F : Facts P) where
   by_heard : (k : HostReply → Program) → ((r : HostReply) → Holds (k r)) → (s : Said) → Holds (hosting.heard k s)
   by_heard k f (Finished c) = tt
   by_heard k f (Told r) = f r
+  by_heard k f Missed = tt
 
   writes : (channel text : Text) → AsksHost P → Holds (hosting.writes channel text)
   writes channel text h = (h (Write channel text), by_heard (hosting.accepted channel) (accepted channel))
@@ -750,6 +751,7 @@ module _ (P : Demands) (F : Facts P) where
   by_finished : (k : Completion → Program) → ((c : Completion) → Holds (k c)) → (s : Said) → Holds (interpreters.finished k s)
   by_finished k f (Finished c) = f c
   by_finished k f (Told r) = tt
+  by_finished k f Missed = tt
 
   by_asks : (path : Path) (entry : Entry) (k : Completion → Program) → Asks path entry → ((c : Completion) → Holds (k c)) → Holds (interpreters.asks_at path entry k)
   by_asks [] entry k a f = (a, f)
@@ -789,13 +791,9 @@ module _ (P : Demands) (F : Facts P) where
         (makes name safe n s))) tt),
   ))
 
-  by_depth : (name : Text) (own : Own) (depth : ℕ) → P.own own → Holds (interpreters.drops_at name own depth)
-  by_depth name own zero o = (F.owns.dropped name own o, λ T s. (tt, λ U t. tt))
-  by_depth name own (suc depth) o = tt
-
   drops : (name : Text) (own : Own) (there : Option (Node Own)) → P.own own → Holds (interpreters.drops name own there)
   drops name own None o = tt
-  drops name own (Some child) o = by_depth name own child.depth o
+  drops name own (Some child) o = (F.owns.dropped name own o, λ T s. (tt, λ U t. tt))
 
   deletes : (name : Text) → Holds (interpreters.deletes name)
   deletes name = by_look _ (λ n o. (tt, λ T s. drops name n.own (T (name ∷ [])) o))
@@ -842,13 +840,13 @@ module _ (P : Demands) (F : Facts P) where
       (by_either (bytes_eq word (codes "-safe")) (interpreters.create_options true words) (fails (interpreters.bad_option word)) (create_options true words) tt))
       (create_path safe (word ∷ words))
 
-  after_delete : (text : Text) (more : Program) → Holds more → (c : Completion) → Holds (interpreters.after_delete text more c)
-  after_delete text more f c = by_either (interpreters.code_is_ok c.code) more (fails (interpreters.in_use text)) f tt
+  after_delete : (more : Program) → Holds more → (c : Completion) → Holds (interpreters.after_delete more c)
+  after_delete more f c = by_either (interpreters.code_is_ok c.code) more (done c) f tt
 
   deletes_named : (text : Text) (path : List Text) (more : Program) → Holds more → Holds (interpreters.deletes_named text path more)
   deletes_named text [] more f = tt
   deletes_named text (x ∷ xs) more f =
-      by_asks (interpreters.before_last x xs).0 (Delete (interpreters.before_last x xs).1) (interpreters.after_delete text more) (anyone (Delete (interpreters.before_last x xs).1) refl (interpreters.before_last x xs).0) (after_delete text more f)
+      by_asks (interpreters.before_last x xs).0 (Delete (interpreters.before_last x xs).1) (interpreters.after_delete more) (anyone (Delete (interpreters.before_last x xs).1) refl (interpreters.before_last x xs).0) (after_delete more f)
 
   delete : (args : List Text) → Holds (interpreters.delete args)
   delete [] = tt
@@ -1160,14 +1158,14 @@ module _ (P : Demands) (F : Facts P) where
   invoked style [] h = tt
   invoked style (word ∷ args) h = by_look _ (λ n o. dispatch style word args invalid_hidden (lookup (bytes_eq word) n.own.hidden) (λ b e g. F.hidden h))
 
-  invoked_at : (b : Bool) (ws : List Text) → P.hidden → Holds (table.invoked_at b ws)
-  invoked_at true ws h = by_look _ (λ n o. (h, (F.owns.chain n.own _ o, λ m p. F.owns.chain m _ p), λ c. tt))
-  invoked_at false ws h = (h, λ c. tt)
+  hidden_at : (style : Integers) (b : Bool) (ws : List Text) → P.hidden → Holds (table.hidden_at style b ws)
+  hidden_at style false ws h = invoked style ws h
+  hidden_at style true ws h = by_look _ (λ n o. (h, (F.owns.chain n.own _ o, λ m p. F.owns.chain m _ p), λ c. tt))
 
   pub serve : (style : Integers) (entry : Entry) → Served P entry → Holds (table.serve style entry)
   serve style (Eval text) h = (tt, λ c. tt)
   serve style (CallWords ws) h = (tt, λ T s. (tt, λ c. tt))
-  serve style (InvokeHidden b ws) h = (tt, λ T s. invoked_at b (table.some_words ws) h)
+  serve style (InvokeHidden b ws) h = (tt, λ T s. (h, λ c. tt))
   serve style (SetAlias name up down ws) h = by_renaming interpreters.done_so _ (λ own o. F.owns.alias own name _ o) tt
   serve style (ClearAlias name) h = by_renaming interpreters.done_so _ (λ own o. F.owns.cleared own name o) tt
   serve style (Hide name hidden) h = by_renaming interpreters.done_so _ (λ own o. F.owns.hiding own name hidden o) tt
@@ -1187,8 +1185,8 @@ module _ (P : Demands) (F : Facts P) where
   program style (Parts ps elements before) g = parts ps elements before
   program style (Call ws) g = called style ws
   program style (Target ws) g = (tt, tt, λ c. tt)
-  program style (Invoke ws) g = (g, tt, λ c. tt)
-  program style (Hidden ws) g = invoked style ws g
+  program style (Invoke b ws) g = (g, tt, λ c. tt)
+  program style (Hidden b ws) g = hidden_at style b ws g
   program style (Foreach walks body) g = foreach_turns walks body
   program style (Lmap walks body made) g = lmap_turns walks body made
   program style (Expression text) g = expression style text

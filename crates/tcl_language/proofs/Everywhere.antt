@@ -40,8 +40,8 @@ module _ (P : Demands) where
   Wraps (Framed own back) = P.own own × ((n : Own) → P.own n → P.own (back n))
 
   abbrev pub Goes : Instr → Type 0
-  Goes (Invoke words) = P.hidden
-  Goes (Hidden words) = P.hidden
+  Goes (Invoke is_global words) = P.hidden
+  Goes (Hidden is_global words) = P.hidden
   Goes (Serve entry) = P.serves entry
   Goes _ = Unit {0}
 

@@ -9,7 +9,7 @@ use Rattle.tcl_core.specs.Entries.{Request, HostReply, Said}
 use Rattle.tcl_core.specs.Entries.Entry.{AskHost}
 use Rattle.tcl_core.specs.Entries.Request.{Open, ReadLine, ReadAll, Write, Flush, Close, AtEnd}
 use Rattle.tcl_core.specs.Entries.HostReply.{Opened, Line, TheEnd, TheRest, Is, Fails}
-use Rattle.tcl_core.specs.Entries.Said.{Finished, Told}
+use Rattle.tcl_core.specs.Entries.Said.{Finished, Told, Missed}
 use Rattle.tcl_core.specs.Programs.Prog.{done, exit, call}
 use Rattle.tcl_text.specs.declared.integer.Integers.{Integers}
 use Rattle.tcl_text.specs.Messages as messages
@@ -29,6 +29,7 @@ refusal_message number x =
 abbrev pub heard : (HostReply → Program) → Said → Program
 heard k (Finished c) = done c
 heard k (Told reply) = k reply
+heard k Missed = done (ok [])
 
 abbrev pub asks : Request → (HostReply → Program) → Program
 asks request k = call None [] (AskHost request) (ok []) (heard k)

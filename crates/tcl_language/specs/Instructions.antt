@@ -50,9 +50,10 @@ pub data Instr : Type 0 where
   Call : (words : List Text) → Instr
   -- the same, one level deeper
   Target : (words : List Text) → Instr
-  -- a hidden command whose step is made, one level deeper; and then by itself
-  Invoke : (words : List Text) → Instr
-  Hidden : (words : List Text) → Instr
+  -- a hidden command whose step is made, at level 0 where that is asked for, one level deeper; and
+  -- then by itself
+  Invoke : (is_global : Bool) (words : List Text) → Instr
+  Hidden : (is_global : Bool) (words : List Text) → Instr
   -- the turns that are left of a loop over lists; and of one that keeps what its body gave, with
   -- what it gave before
   Foreach : (walks : List Walk) (body : Text) → Instr

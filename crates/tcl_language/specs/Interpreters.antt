@@ -14,7 +14,7 @@ use Rattle.tcl_core.specs.Entries.Entry.{Eval, CallWords, InvokeHidden, SetAlias
 use Rattle.tcl_core.specs.Entries.Entry.{Expose, SetCountLimit, SetDepthLimit, Create, Delete, Ask}
 use Rattle.tcl_core.specs.Entries.Question.{Exists, IsSafe, Aliases, AliasOf, Hidden as HiddenNames}
 use Rattle.tcl_core.specs.Entries.Question.{Slaves, CountLimitOf, DepthLimitOf}
-use Rattle.tcl_core.specs.Entries.Said.{Finished, Told}
+use Rattle.tcl_core.specs.Entries.Said.{Finished, Told, Missed}
 use Rattle.tcl_core.specs.Trees.{Node}
 use Rattle.tcl_core.specs.Programs.{most_steps}
 use Rattle.tcl_core.specs.Programs.Act.{Look, Make, Drop, Limit, LimitDepth}
@@ -44,6 +44,11 @@ use Rattle.tcl_language.specs.Words.{concat}
 abbrev pub no_interpreter : Text → Text
 no_interpreter x = quoted (codes "could not find interpreter ") x []
 
+-- what an entry from outside is told whose path finds nobody: the path is shown as a list
+abbrev pub nobody_at : Path → Completion
+nobody_at path = either (fits (no_interpreter (written_list path)))
+    (error (no_interpreter (written_list path))) too_long
+
 abbrev pub in_use : Text → Text
 in_use x = quoted (codes "interpreter ") x (codes " is in use")
 
@@ -61,9 +66,12 @@ denied = messages.denied
 
 -- ## Asking
 
+-- on with the completion; nothing else answers such a call (where nobody is there, that is the
+-- call's own)
 abbrev pub finished : (Completion → Program) → Said → Program
 finished k (Finished c) = k c
 finished k (Told reply) = done (ok [])
+finished k Missed = done (ok [])
 
 -- what is asked of the interpreter at a path: of itself at the empty one, and else of one below
 abbrev pub asks_at : Path → Entry → (Completion → Program) → Program
@@ -130,15 +138,12 @@ least_free (suc turns) n commands = either (is_some (lookup (bytes_eq (numbered 
 abbrev pub free_name : Own → Text
 free_name own = numbered (least_free (length own.commands) 0 own.commands)
 
-abbrev pub drops_at : Text → Own → ℕ → Program
-drops_at name own zero = change (without_old_child name own) (act (Drop name) (λ T. done (ok [])))
-drops_at name own (suc depth) = fails (in_use [])
-
 abbrev pub drops : Text → Own → Option (Node Own) → Program
 drops name own None = fails (no_interpreter (written_list (name ∷ [])))
-drops name own (Some child) = drops_at name own child.depth
+drops name own (Some child) = change (without_old_child name own)
+    (act (Drop name) (λ T. done (ok [])))
 
--- A child is dropped, with all below it, where no evaluation is in progress in it.
+-- A child is dropped, with all below it, also where an evaluation is in progress in it.
 abbrev pub deletes : Text → Program
 deletes name = look (λ n. act Look (λ T. drops name n.own (T (name ∷ []))))
 
@@ -326,15 +331,15 @@ create_options safe (word ∷ words) =
 
 -- ## `interp delete ?path ...?`
 
-abbrev pub after_delete : Text → Program → Completion → Program
-after_delete text more c = either (code_is_ok c.code) more (fails (in_use text))
+abbrev pub after_delete : Program → Completion → Program
+after_delete more c = either (code_is_ok c.code) more (done c)
 
-abbrev pub deletes_at : Text → List Text × Text → Program → Program
-deletes_at text p more = asks_at p.0 (Delete p.1) (after_delete text more)
+abbrev pub deletes_at : List Text × Text → Program → Program
+deletes_at p more = asks_at p.0 (Delete p.1) (after_delete more)
 
 abbrev pub deletes_named : Text → List Text → Program → Program
 deletes_named text [] more = fails (in_use text)
-deletes_named text (x ∷ xs) more = deletes_at text (before_last x xs) more
+deletes_named text (x ∷ xs) more = deletes_at (before_last x xs) more
 
 abbrev pub delete : List Text → Program
 delete [] = done (ok [])

@@ -1,22 +1,23 @@
--- A run, computed: what comes of a program by itself, where no limit from outside is in the way and
--- the host accepts all that is asked of it.
+-- A run, computed: what comes of a program by itself, where no limit from outside is in the way,
+-- the host accepts all that is asked of it, and above the top nobody is.
 use Rattle.std.specs.Prelude.{◌≡◌, ℕ, zero, suc, Bool, true, false, Option, Some, None}
 use Rattle.tcl_core.specs.Paths.{Place, Height, rise_to}
 use Rattle.tcl_core.specs.Endings.{Completion, Reply, refusal}
 use Rattle.tcl_core.specs.Endings.Meter.{Depth}
+use Rattle.tcl_core.specs.Endings.Kind.{Full}
 use Rattle.tcl_core.specs.Endings.Reply.{Completed, Stop, Exit, Cut}
-use Rattle.tcl_core.specs.Entries.{Entry}
-use Rattle.tcl_core.specs.Entries.Answer.{Heard}
+use Rattle.tcl_core.specs.Entries.{Entry, Answer, Said}
+use Rattle.tcl_core.specs.Entries.Answer.{Heard, Nobody}
 use Rattle.tcl_core.specs.Entries.HostReply.{Accepted}
 use Rattle.tcl_core.specs.Entries.Said.{Finished, Told}
 use Rattle.tcl_core.specs.Execution.{Executes}
-use Rattle.tcl_core.specs.Trees.{Tree, Event, effect, at}
+use Rattle.tcl_core.specs.Trees.{Tree, Event, effect, at, depth_of}
 use Rattle.tcl_core.specs.Trees.Move.{Come}
 use Rattle.tcl_core.specs.Trees.Grants.{Budget}
 use Rattle.tcl_core.specs.Programs.{Deed, Wait, Prog, Table, spot, decide, opens, closes}
 use Rattle.tcl_core.specs.Programs.Next.{On, TooDeep, Off}
 use Rattle.tcl_core.specs.Programs.Prog.{done, exit, act, go, inside, call, wait}
-use Rattle.tcl_core.specs.Runs.{carried, reached, entering, fits}
+use Rattle.tcl_core.specs.Runs.{returned, reached, fits}
 
 module _ {O I : Type 0} (prog : Table O I) where
   abbrev pub Played : Type 0
@@ -58,9 +59,18 @@ module _ {O I : Type 0} (prog : Table O I) where
   where_fit true y = y
   where_fit false y = None
 
-  -- the host accepts what is asked of it
-  abbrev pub accepts : Height → Entry → Bool
-  accepts h i = fits {O = O} (Some (h, i)) (Come (Heard Accepted))
+  -- How a call that leaves the tree is answered: the host accepts what is asked of it, and nobody
+  -- is there for an alias. And what the program is told.
+  abbrev pub from_outside : Height → Answer
+  from_outside None = Heard Accepted
+  from_outside (Some h) = Nobody
+
+  abbrev pub told_so : Completion → Height → Said
+  told_so lost None = Told Accepted
+  told_so lost (Some h) = Finished lost
+
+  abbrev pub suits : Tree O → Place → Height → Entry → Bool
+  suits T p h i = fits T p (Some (h, i, depth_of (T p))) (Come (from_outside h))
 
   -- what comes of it within so many turns
   abbrev pub play : ℕ → Tree O → Place → Prog O I → Played
@@ -72,13 +82,13 @@ module _ {O I : Type 0} (prog : Table O I) where
       (on_completed (λ U c. play n U p (k c)))
   play (suc n) T p (inside b i k) =
       wrapped (λ U. follow (play n U p (prog.program i))
-      (λ V r. on_completed (λ W c. play n W p (k c)) (effect p (closes b (V p)) V) r))
-      (λ U. play n U p (k (refusal Depth))) T p (opens b T p (Budget 1000))
+      (λ V r. on_completed (λ W c. play n W p (k c)) (effect p (closes b (U p) (V p)) V) r))
+      (λ U. play n U p (k (refusal (Full Depth)))) T p (opens b T p (Budget 1000))
   play (suc n) T p (call h down i lost k) =
-      risen_by (λ a. reached_by (λ t. follow (play n T t (entering prog (T t) i))
-      (λ U r. on_completed (λ V c. play n V p (k (Finished c))) U (carried h p down r)))
+      risen_by (λ a. reached_by (λ t. follow (play n T t (prog.entry i))
+      (λ U r. on_completed (λ V c. play n V p (k (Finished c))) U (returned T U h p down r)))
       (play n T p (k (Finished lost))) (reached T a down))
-      (where_fit (accepts h i) (play n T p (k (Told Accepted)))) (rise_to h p)
+      (where_fit (suits T p h i) (play n T p (k (told_so lost h)))) (rise_to h p)
   play (suc n) T p (wait s k) = None
 
 -- how it ends

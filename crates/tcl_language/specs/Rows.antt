@@ -1,11 +1,12 @@
 -- Worked scripts, each run in a new interpreter, by the commands of a table.
 use Rattle.std.specs.Prelude.{◌≡◌, ℕ, pos, true, false, List, [], ◌∷◌, ◌++◌, Option, Some, None}
 use Rattle.std.specs.Prelude.{codes}
-use Rattle.tcl_core.specs.Paths.{Text}
+use Rattle.tcl_core.specs.Paths.{Text, Path}
 use Rattle.tcl_core.specs.Endings.{Reply, ok, error}
 use Rattle.tcl_core.specs.Endings.Reply.{Completed, Stop, Exit}
 use Rattle.tcl_core.specs.Endings.Meter.{Count}
-use Rattle.tcl_core.specs.Entries.Entry.{Eval}
+use Rattle.tcl_core.specs.Endings.Kind.{Full}
+use Rattle.tcl_core.specs.Entries.Entry.{Eval, SetAlias}
 use Rattle.tcl_core.specs.Programs.{Table}
 use Rattle.tcl_core.specs.Trees.{Node}
 use Rattle.tcl_text.specs.declared.integer.Integers.{Integers}
@@ -13,7 +14,7 @@ use Rattle.tcl_text.specs.declared.integer.Integers.TheVariants.{Tcl8, Tcl9}
 use Rattle.tcl_tree.specs.Own.{Own, new_own}
 use Rattle.tcl_language.specs.Instructions.{Instr}
 use Rattle.tcl_language.specs.Table.{serve}
-use Rattle.tcl_language.specs.Playing.{play, ends}
+use Rattle.tcl_language.specs.Playing.{play, ends, follow}
 
 abbrev pub root : Option ℕ → Node Own
 root limit = record {
@@ -55,11 +56,22 @@ module _ (language : Integers → Table Own Instr) where
   GivesWithin limit script text = outcome_in Tcl8 (Some limit) script ≡ Some (Completed (ok text))
 
   abbrev pub Stops : ℕ → Text → Type 0
-  Stops limit script = outcome_in Tcl8 (Some limit) script ≡ Some (Stop 0 Count)
+  Stops limit script = outcome_in Tcl8 (Some limit) script ≡ Some (Stop 0 (Full Count))
 
   -- the same in the other style of integer texts
   abbrev pub Gives9 : Text → Text → Type 0
   Gives9 script text = outcome_in Tcl9 None script ≡ Some (Completed (ok text))
+
+  -- a script in an interpreter with an alias `f` that leads past its top, where nobody is, gives
+  abbrev pub GivesWithAlias : Text → Text → Type 0
+  GivesWithAlias script text = ends (follow (language Tcl8) (play (language Tcl8) 1000 (start None)
+      [] (serve Tcl8 (SetAlias (codes "f") 1 [] (codes "g" ∷ []))))
+      (λ T r. play (language Tcl8) 1000 T [] (serve Tcl8 (Eval script))))
+      ≡ Some (Completed (ok text))
+
+  -- an entry from outside by this path, where nobody is, is told this error
+  abbrev pub FindsNobody : Path → Text → Type 0
+  FindsNobody path text = (language Tcl8).lost path ≡ error text
 
   pub record AreRows : Type 0 where
     pub empty : Gives [] []
@@ -128,10 +140,50 @@ module _ (language : Integers → Table Own Instr) where
         (codes "interp create -safe c; c eval {interp create g; list [interp issafe g] [catch "
         ++ codes "{interp expose g exit} m] $m}")
         (codes "1 1 {permission denied}")
-    pub in_use : Gives
+    pub deleted_in_use : Fails
         (codes "interp create -safe c; proc kill {} {interp delete c}; interp alias c kill {} "
         ++ codes "kill; c eval {list [catch kill m] $m}")
-        (codes "1 {interpreter \"c\" is in use}")
+        (codes "interpreter was deleted")
+    pub deleted_at_once : Gives
+        (codes "interp create c; proc kill {} {interp delete c; interp exists c}; interp alias c "
+        ++ codes "kill {} kill; list [catch {c eval kill} m] $m [interp exists c]")
+        (codes "1 {interpreter was deleted} 0")
+    pub made_anew_in_use : Gives
+        (codes "interp create c; proc kill {} {interp delete c; interp create c; c eval {set v 1}"
+        ++ codes "}; interp alias c kill {} kill; list [catch {c eval {kill; set v 2}} m] $m [c "
+        ++ codes "eval {set v}]")
+        (codes "1 {interpreter was deleted} 1")
+    pub made_anew_at_level_0 : Gives
+        (codes "interp create c; proc kill {} {interp delete c; interp create c; c eval {set v 1}"
+        ++ codes "}; interp alias c kill {} kill; interp hide c kill; list [catch {interp "
+        ++ codes "invokehidden c -global kill} m] $m [c eval {list $v [info level]}]")
+        (codes "1 {interpreter was deleted} {1 0}")
+    pub deleted_twice_in_use : Gives
+        (codes "interp create c; proc kill {} {interp delete c; interp create c; return ok}; proc "
+        ++ codes "back {} {global r; catch {c eval kill} r; c eval {set v 1}}; interp alias c kill "
+        ++ codes "{} kill; interp alias c back {} back; list [catch {c eval {catch back; set v 2}}"
+        ++ codes " m] $m $r [c eval {set v}]")
+        (codes "1 {interpreter was deleted} {interpreter was deleted} 1")
+    pub made_anew_above : Gives
+        (codes "interp create a; a eval {interp create b}; proc kill {} {interp delete a; interp "
+        ++ codes "create a; a eval {interp create b; b eval {set v 1}}}; interp alias {a b} kill {"
+        ++ codes "} kill; list [catch {a eval {catch {b eval {catch kill; set v 2}}; set v 3}} m] "
+        ++ codes "$m [a eval {list [info vars] [b eval {set v}]}]")
+        (codes "1 {interpreter was deleted} {{} 1}")
+    pub catches_no_deletion : Gives
+        (codes "interp create g; proc kg {} {interp delete g; return ok}; interp alias g kg {} kg"
+        ++ codes "; list [catch {g eval {catch kg; set y 1}} m] $m [interp slaves]")
+        (codes "1 {interpreter was deleted} {}")
+    pub deleted_from_below : Gives
+        (codes "interp create c; c eval {interp create g}; proc kill {} {interp delete c}; "
+        ++ codes "interp alias {c g} kill {} kill; list [catch {c eval {catch {g eval {catch kill"
+        ++ codes "}}}} m] $m [interp slaves]")
+        (codes "1 {interpreter was deleted} {}")
+    pub deleted_below : Gives
+        (codes "interp create c; c eval {interp create g}; proc kill {} {interp delete {c g}}; "
+        ++ codes "interp alias {c g} kill {} kill; c eval {list [catch {g eval {catch kill}} m] "
+        ++ codes "$m [interp slaves]}")
+        (codes "1 {interpreter was deleted} {}")
     pub parameters : Gives (codes
         "proc f {a {b 2} args} {list $a $b $args}; list [f 1] [f 1 3 4 5] [catch f m] $m")
         (codes "{1 2 {}} {1 3 {4 5}} 1 {wrong # args: should be \"f a ?b? ?arg ...?\"}")
@@ -365,3 +417,8 @@ module _ (language : Integers → Table Own Instr) where
     pub info_complete : Gives (codes
         "list [info complete {list a}] [info complete \\{] [info complete \"{a}b\"]")
         (codes "1 0 1")
+    pub nobody_there : FindsNobody (codes "a" ∷ codes "b c" ∷ [])
+        (codes "could not find interpreter \"a {b c}\"")
+    pub nobody_at_the_top : FindsNobody [] (codes "could not find interpreter \"\"")
+    pub nobody_above : GivesWithAlias (codes "list [catch {f 1} m] $m")
+        (codes "1 {could not find the target of alias \"f\"}")

@@ -37,8 +37,8 @@ plain own = are_plain own.commands
 
 -- what can go on where nobody is asked to expose a command or to invoke a hidden one
 abbrev pub is_quiet : Instr → Bool
-is_quiet (Invoke words) = false
-is_quiet (Hidden words) = false
+is_quiet (Invoke is_global words) = false
+is_quiet (Hidden is_global words) = false
 is_quiet (Serve entry) = not (exposes entry)
 is_quiet _ = true
 

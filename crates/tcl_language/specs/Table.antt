@@ -145,20 +145,20 @@ some_words (word ∷ words) = word ∷ words
 abbrev pub settled : Completion → Program
 settled c = done (settle c)
 
--- a hidden command is counted, then nested, then looked up, at level 0 where that is asked for; and
--- settled
-abbrev pub invoked_at : Bool → List Text → Program
-invoked_at true words = look (λ n. inside (Framed (at_level 0 n.own) level_over) (Invoke words)
-    settled)
-invoked_at false words = go (Invoke words) settled
+-- a hidden command by itself: looked up at once, or within frames at level 0
+abbrev pub hidden_at : Integers → Bool → List Text → Program
+hidden_at style false words = invoked style words
+hidden_at style true words = look (λ n. inside (Framed (at_level 0 n.own) level_over)
+    (Hidden false words) done)
 
 -- What another interpreter, or the outside, asks for. No interpreter does what only the host is
 -- asked for.
 abbrev pub serve : Integers → Entry → Program
 serve style (Eval text) = go (Script text) settled
 serve style (CallWords words) = act Charge (λ T. go (Target (some_words words)) done)
+-- a hidden command is counted, then nested, then looked up; and settled
 serve style (InvokeHidden is_global words) = act Charge
-    (λ T. invoked_at is_global (some_words words))
+    (λ T. go (Invoke is_global (some_words words)) settled)
 serve style (SetAlias name up down words) = interpreters.sets_alias name up down words
 serve style (ClearAlias name) = interpreters.clears_alias name
 serve style (Hide name hidden) = interpreters.hides name hidden
@@ -179,8 +179,8 @@ program style (Words words before) = scripts.words words before
 program style (Parts parts elements before) = scripts.parts parts elements before
 program style (Call words) = called style words
 program style (Target words) = inside Deeper (Call words) done
-program style (Invoke words) = inside Deeper (Hidden words) done
-program style (Hidden words) = invoked style words
+program style (Invoke is_global words) = inside Deeper (Hidden is_global words) done
+program style (Hidden is_global words) = hidden_at style is_global words
 program style (Foreach walks body) = control.foreach_turns walks body
 program style (Lmap walks body made) = control.lmap_turns walks body made
 program style (Expression text) = expressions.expression style text

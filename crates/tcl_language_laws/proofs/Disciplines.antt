@@ -1,5 +1,5 @@
 -- A discipline as demands on programs. What they hold of all through keeps it.
-use Rattle.std.proofs.Common.{◌≡◌, subst, true, Bool, []}
+use Rattle.std.proofs.Common.{◌≡◌, subst, true, Bool, [], false}
 use Rattle.tcl_core.specs.Programs.{Act, Wrap}
 use Rattle.tcl_core.specs.Programs.Act.{Change}
 use Rattle.tcl_core.specs.Programs.Prog.{act, call, done, exit, go, inside, wait}
@@ -17,7 +17,7 @@ module _ (R : Discipline Own Instr) (l : Bool) where
     own = λ own. R.plain own ≡ true;
     steps = l ≡ true;
     depth = l ≡ true;
-    hidden = R.fine (Hidden []) ≡ true;
+    hidden = R.fine (Hidden false []) ≡ true;
     serves = λ entry. R.fine (Serve entry) ≡ true;
     calls = λ up down entry. Modest_call R up entry;
   }

@@ -178,14 +178,14 @@ quiet = record {
 }
 
 quiet_goes : (i : Instr) → is_quiet i ≡ true → Goes (demands Q true) i
-quiet_goes (Invoke ws) e = e
-quiet_goes (Hidden ws) e = e
+quiet_goes (Invoke b ws) e = e
+quiet_goes (Hidden b ws) e = e
 quiet_goes (Serve entry) e = e
 quiet_goes _ e = tt
 
 quiet_fine : (i : Instr) → Goes (demands Q true) i → is_quiet i ≡ true
-quiet_fine (Invoke ws) g = g
-quiet_fine (Hidden ws) g = g
+quiet_fine (Invoke b ws) g = g
+quiet_fine (Hidden b ws) g = g
 quiet_fine (Serve entry) g = g
 quiet_fine _ g = refl
 
@@ -225,8 +225,8 @@ module _ (limited : Place → Bool) where
     }
 
     goes : (i : Instr) → is_modest i ≡ true → Goes (demands M l) i
-    goes (Invoke ws) e = e
-    goes (Hidden ws) e = e
+    goes (Invoke b ws) e = e
+    goes (Hidden b ws) e = e
     goes (Serve entry) e = e
     goes _ e = tt
 

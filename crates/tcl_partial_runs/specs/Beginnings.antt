@@ -4,18 +4,21 @@ use Rattle.std.specs.Prelude.{◌≡◌, Bool, true, List, [], ◌∷◌, ◌++�
 use Rattle.tcl_core.specs.Paths.{Path, Place, Height, rise_to}
 use Rattle.tcl_core.specs.Endings.{Completion, Reply, refusal}
 use Rattle.tcl_core.specs.Endings.Meter.{Depth}
+use Rattle.tcl_core.specs.Endings.Kind.{Full}
 use Rattle.tcl_core.specs.Endings.Reply.{Completed}
 use Rattle.tcl_core.specs.Entries.{Entry, HostReply, Said}
-use Rattle.tcl_core.specs.Entries.Answer.{Replied, Heard}
-use Rattle.tcl_core.specs.Entries.Said.{Finished, Told}
-use Rattle.tcl_core.specs.Trees.{Tree, What, Event, Move, Grant, Grants, effect, asked, granted, at}
+use Rattle.tcl_core.specs.Entries.Answer.{Replied, Heard, Nobody}
+use Rattle.tcl_core.specs.Entries.Said.{Finished, Told, Missed}
+use Rattle.tcl_core.specs.Trees.{Tree, Node, What, Event, Move, Grant, Grants, effect, asked}
+use Rattle.tcl_core.specs.Trees.{at, granted, depth_of}
 use Rattle.tcl_core.specs.Trees.Grants.{Listed}
-use Rattle.tcl_core.specs.Trees.What.{Refused, Out, In, Done, Back}
+use Rattle.tcl_core.specs.Trees.What.{Refused, Out, In, Done, Back, Unfound}
 use Rattle.tcl_core.specs.Trees.Move.{Come}
-use Rattle.tcl_core.specs.Programs.{Deed, spot, Act, Wrap, Wait, Prog, Table, closes}
+use Rattle.tcl_core.specs.Programs.{Deed, spot, Act, Wrap, Wait, Prog, Table, closes, or_lost}
 use Rattle.tcl_core.specs.Programs.Next.{On, TooDeep}
 use Rattle.tcl_core.specs.Programs.Prog.{act, go, inside, call, wait}
-use Rattle.tcl_core.specs.Runs.{World, Ending, Runs, carried, reached, entering, fits, height_of}
+use Rattle.tcl_core.specs.Runs.{World, Ending, Runs, returned, reached, fits}
+use Rattle.tcl_core.specs.Runs.{height_of}
 use Rattle.tcl_core.specs.Rules.{IsOn, IsNoExit}
 use Rattle.tcl_core.specs.Execution.{Executes, Chain, Decides, Fits, Open, Opens_so, event}
 use Rattle.tcl_core.specs.Execution.{pending, waits_for}
@@ -53,14 +56,14 @@ pub data Begun {O I S : Type 0} (step : Tree O → S → Wait → Event O → S 
       {k : Completion → Prog O I} {c : Completion} (x : Deed O) →
       Opens_so b T p x → x.2 ≡ On → step T o None (event (spot p x.0) x.1) o1 →
       Executes step prog (effect (spot p x.0) x.1 T) o1 p (prog.program i) U o2 (Completed c) →
-      step U o2 None (event p (closes b (U p))) o3 →
-      Begun step prog (effect p (closes b (U p)) U) o3 p (k c) z →
+      step U o2 None (event p (closes b (effect (spot p x.0) x.1 T p) (U p))) o3 →
+      Begun step prog (effect p (closes b (effect (spot p x.0) x.1 T p) (U p)) U) o3 p (k c) z →
       Begun step prog T o p (inside b i k) z
   -- after an evaluation that was too deep
   too_deep : {T : Tree O} {o u z : S} {p : Place} {b : Wrap O} {i : I} {k : Completion → Prog O I}
       (x : Deed O) →
       Opens_so b T p x → x.2 ≡ TooDeep → step T o None (event (spot p x.0) x.1) u →
-      Begun step prog (effect (spot p x.0) x.1 T) u p (k (refusal Depth)) z →
+      Begun step prog (effect (spot p x.0) x.1 T) u p (k (refusal (Full Depth))) z →
       Begun step prog T o p (inside b i k) z
   -- a call went out, to whomever it goes
   calling_out : {T : Tree O} {o u : S} {p : Place} {h : Height} {down : Path} {i : Entry}
@@ -72,7 +75,7 @@ pub data Begun {O I S : Type 0} (step : Tree O → S → Wait → Event O → S 
       rise_to h p ≡ Some a → reached T a down ≡ Some t →
       step T o None (event p (Out h down i)) o1 →
       step T o1 None (event t (In (Some (length down)) i)) o2 →
-      Begun step prog T o2 t (entering prog (T t) i) z →
+      Begun step prog T o2 t (prog.entry i) z →
       Begun step prog T o p (call h down i lost k) z
   -- it was done, and the answer did not come back
   returning : {T U : Tree O} {o o1 o2 o3 o4 : S} {p : Place} {h : Height} {down : Path} {i : Entry}
@@ -80,7 +83,7 @@ pub data Begun {O I S : Type 0} (step : Tree O → S → Wait → Event O → S 
       rise_to h p ≡ Some a → reached T a down ≡ Some t →
       step T o None (event p (Out h down i)) o1 →
       step T o1 None (event t (In (Some (length down)) i)) o2 →
-      Executes step prog T o2 t (entering prog (T t) i) U o3 s →
+      Executes step prog T o2 t (prog.entry i) U o3 s →
       step U o3 None (event t (Done (Some (length down)) s)) o4 →
       Begun step prog T o p (call h down i lost k) o4
   -- after the answer
@@ -90,9 +93,10 @@ pub data Begun {O I S : Type 0} (step : Tree O → S → Wait → Event O → S 
       rise_to h p ≡ Some a → reached T a down ≡ Some t →
       step T o None (event p (Out h down i)) o1 →
       step T o1 None (event t (In (Some (length down)) i)) o2 →
-      Executes step prog T o2 t (entering prog (T t) i) U o3 s →
-      step U o3 None (event t (Done (Some (length down)) s)) o4 → carried h p down s ≡ Completed c →
-      step U o4 None (event p (Back h (Replied (carried h p down s)))) o5 →
+      Executes step prog T o2 t (prog.entry i) U o3 s →
+      step U o3 None (event t (Done (Some (length down)) s)) o4 →
+      returned T U h p down s ≡ Completed c →
+      step U o4 None (event p (Back h (Replied (returned T U h p down s)))) o5 →
       Begun step prog U o5 p (k (Finished c)) z → Begun step prog T o p (call h down i lost k) z
   -- after a call to one that doesn't stand
   unreached : {T : Tree O} {o o1 o2 z : S} {p : Place} {h : Height} {down : Path} {i : Entry}
@@ -104,42 +108,52 @@ pub data Begun {O I S : Type 0} (step : Tree O → S → Wait → Event O → S 
   -- a call left the tree, and was waited for
   called_out : {T : Tree O} {o u z : S} {p : Place} {h : Height} {down : Path} {i : Entry}
       {lost : Completion} {k : Said → Prog O I} → rise_to h p ≡ None →
-      step T o None (event p (Out h down i)) u → Begun step prog T u p (wait (Some (h, i)) k) z →
+      step T o None (event p (Out h down i)) u →
+      Begun step prog T u p (wait (Some (h, i, depth_of (T p))) (or_lost lost k)) z →
       Begun step prog T o p (call h down i lost k) z
   -- after its answer
   answered : {T : Tree O} {o u z : S} {p : Place} {s : Wait} {k : Said → Prog O I} {c : Completion}
       → rise_to (height_of s) p ≡ None →
-      fits {O = O} s (Come (Replied (Completed c))) ≡ true →
+      fits T p s (Come (Replied (Completed c))) ≡ true →
       step T o s (event p (Back (height_of s) (Replied (Completed c)))) u →
       Begun step prog T u p (k (Finished c)) z → Begun step prog T o p (wait s k) z
   heard : {T : Tree O} {o u z : S} {p : Place} {s : Wait} {k : Said → Prog O I} {a : HostReply} →
       rise_to (height_of s) p ≡ None →
-      fits {O = O} s (Come (Heard a)) ≡ true →
+      fits T p s (Come (Heard a)) ≡ true →
       step T o s (event p (Back (height_of s) (Heard a))) u → Begun step prog T u p (k (Told a)) z →
       Begun step prog T o p (wait s k) z
+  missed : {T : Tree O} {o u z : S} {p : Place} {s : Wait} {k : Said → Prog O I} →
+      rise_to (height_of s) p ≡ None → fits T p s (Come Nobody) ≡ true →
+      step T o s (event p (Back (height_of s) Nobody)) u → Begun step prog T u p (k Missed) z →
+      Begun step prog T o p (wait s k) z
   -- in an entry from outside, while the call is waited for
-  entering_in : {T : Tree O} {o o1 z : S} {p : Place} {s : Wait} {k : Said → Prog O I} (t : Path)
-      (i : Entry) → rise_to (height_of s) p ≡ None →
-      step T o None (event t (In None i)) o1 → Begun step prog T o1 t (entering prog (T t) i) z →
+  entering_in : {T : Tree O} {o o1 z : S} {p : Place} {s : Wait} {k : Said → Prog O I}
+      {node : Node O} (t : Path) (i : Entry) → rise_to (height_of s) p ≡ None → T t ≡ Some node →
+      step T o None (event t (In None i)) o1 → Begun step prog T o1 t (prog.entry i) z →
       Begun step prog T o p (wait s k) z
   -- it was done, and its reply was not told; or it was told
   leaving : {T U : Tree O} {o o1 o2 : S} {p : Place} {s : Wait} {k : Said → Prog O I} {y : Reply}
-      (t : Path) (i : Entry) → rise_to (height_of s) p ≡ None →
+      {node : Node O} (t : Path) (i : Entry) → rise_to (height_of s) p ≡ None → T t ≡ Some node →
       step T o None (event t (In None i)) o1 →
-      Executes step prog T o1 t (entering prog (T t) i) U o2 y →
+      Executes step prog T o1 t (prog.entry i) U o2 y →
       Begun step prog T o p (wait s k) o2
   left : {T U : Tree O} {o o1 o2 o3 : S} {p : Place} {s : Wait} {k : Said → Prog O I} {y : Reply}
-      (t : Path) (i : Entry) → rise_to (height_of s) p ≡ None →
+      {node : Node O} (t : Path) (i : Entry) → rise_to (height_of s) p ≡ None → T t ≡ Some node →
       step T o None (event t (In None i)) o1 →
-      Executes step prog T o1 t (entering prog (T t) i) U o2 y →
+      Executes step prog T o1 t (prog.entry i) U o2 y →
       step U o2 None (event t (Done None y)) o3 → Begun step prog T o p (wait s k) o3
   -- after such an entry, unless it exited
   entered : {T U : Tree O} {o o1 o2 o3 z : S} {p : Place} {s : Wait} {k : Said → Prog O I}
-      {y : Reply} (t : Path) (i : Entry) → rise_to (height_of s) p ≡ None →
-      step T o None (event t (In None i)) o1 →
-      Executes step prog T o1 t (entering prog (T t) i) U o2 y →
+      {y : Reply} {node : Node O} (t : Path) (i : Entry) → rise_to (height_of s) p ≡ None →
+      T t ≡ Some node → step T o None (event t (In None i)) o1 →
+      Executes step prog T o1 t (prog.entry i) U o2 y →
       step U o2 None (event t (Done None y)) o3 → IsNoExit y →
       Begun step prog U o3 p (wait s k) z → Begun step prog T o p (wait s k) z
+  -- after one that finds nobody
+  unfound : {T : Tree O} {o u z : S} {p : Place} {s : Wait} {k : Said → Prog O I} (t : Path)
+      (i : Entry) → rise_to (height_of s) p ≡ None → T t ≡ None →
+      step T o None (event [] (Unfound t i (prog.lost t))) u →
+      Begun step prog T u p (wait s k) z → Begun step prog T o p (wait s k) z
 
 module _ {O : Type 0} where
   -- the moves that these happenings read, in front of others

@@ -8,7 +8,7 @@ use Rattle.tcl_core.specs.Entries.Answer.{Heard}
 use Rattle.tcl_core.specs.Entries.Entry.{AskHost}
 use Rattle.tcl_core.specs.Entries.HostReply.{TheEnd}
 use Rattle.tcl_core.specs.Entries.Request.{ReadLine}
-use Rattle.tcl_core.specs.Entries.Said.{Finished, Told}
+use Rattle.tcl_core.specs.Entries.Said.{Finished, Told, Missed}
 use Rattle.tcl_core.specs.Example.{first_tree, lost}
 use Rattle.tcl_core.specs.Programs.{Calls_only, Prog, Table}
 use Rattle.tcl_core.specs.Programs.Act.{Charge}
@@ -34,10 +34,12 @@ request = AskHost (ReadLine [])
 abbrev pub after_line : Said → Prog ℕ Reading
 after_line (Finished c) = done c
 after_line (Told a) = done (ok [])
+after_line Missed = done lost
 
 abbrev pub after_line_calls : (a : Said) → Calls_only (after_line a)
 after_line_calls (Finished c) = tt
 after_line_calls (Told a) = tt
+after_line_calls Missed = tt
 
 -- one step, and then the request
 abbrev pub reads_line : Prog ℕ Reading
@@ -47,7 +49,7 @@ abbrev pub reading : Table ℕ Reading
 reading = record {
   program = λ i. reads_line;
   entry = λ i. done lost;
-  lost = lost;
+  lost = λ path. lost;
   programs_call = λ i. λ T.
       after_line_calls;
   entries_call = λ i. tt;

@@ -1,21 +1,20 @@
 -- From the end of a life to its beginning: which moves and how many steps a player must have had to go along with an outside that has a budget.
-use Rattle.std.proofs.Common.{sym, ◌≡◌, ◌⊎◌, inl, inr, ℕ, suc, ◌+◌, ℤ, true, List, [], ◌∷◌, ◌++◌, Option, Some, None, length, refl, ◌∙◌, ap, subst, arith, append-nil}
-use Rattle.std.specs.Ordering.{int_eq}
+use Rattle.std.proofs.Common.{sym, ◌≡◌, inl, inr, ℕ, suc, ◌+◌, ℤ, true, List, [], ◌∷◌, ◌++◌, Option, Some, None, refl, ◌∙◌, ap, subst, arith, append-nil}
 use Rattle.tcl_core.specs.Paths.{Path, Place, Height, rise_to}
-use Rattle.tcl_core.specs.Endings.{Completion, Reply, IsQuit}
+use Rattle.tcl_core.specs.Endings.{Completion, Reply}
 use Rattle.tcl_core.specs.Endings.Meter.{Count, Depth}
 use Rattle.tcl_core.specs.Endings.Reply.{Completed, Stop, Exit, Cut}
-use Rattle.tcl_core.specs.Entries.{Answer, Entry, HostReply, Said}
-use Rattle.tcl_core.specs.Entries.Answer.{Replied, Heard}
+use Rattle.tcl_core.specs.Entries.{Answer, Entry}
+use Rattle.tcl_core.specs.Entries.Answer.{Replied, Heard, Nobody}
 use Rattle.tcl_core.specs.Trees.{Tree, Event, Move, What, asked, paid, where_none}
 use Rattle.tcl_core.specs.Trees.Move.{Enter, Come}
-use Rattle.tcl_core.specs.Trees.What.{Seen, Changed, Charged, Nested, Unnested, Refused, Limited, DepthLimited, Made, Dropped, Out, In, Done, Back}
-use Rattle.tcl_core.specs.Programs.{Prog, Table, Wait}
-use Rattle.tcl_core.specs.Runs.{answers_call, fits, is_exit}
+use Rattle.tcl_core.specs.Trees.What.{Seen, Changed, Charged, Nested, Unnested, Refused, Limited, DepthLimited, Made, Dropped, Out, In, Done, Back, Unfound}
+use Rattle.tcl_core.specs.Programs.{Wait}
+use Rattle.tcl_core.specs.Runs.{fits}
 use Rattle.tcl_core.specs.Rules.{IsNoExit}
-use Rattle.tcl_core.specs.Execution.{Crossings, Executes, event, hears}
+use Rattle.tcl_core.specs.Execution.{Crossings, event, hears}
 use Rattle.tcl_core.specs.Lives.{Outcome, ending_of, outcome_of, put, told}
-use Rattle.tcl_core.specs.Lives.Outcome.{Finished, Exited}
+use Rattle.tcl_core.specs.Lives.Outcome.{Finished}
 use Rattle.tcl_core.proofs.Plain.{IsPlain}
 use Rattle.tcl_core.proofs.Seeing.{is_exit_self}
 use Rattle.tcl_reactions.specs.Moving
@@ -25,7 +24,7 @@ use Rattle.tcl_reactions.specs.Playing as playing
 use Rattle.tcl_reactions.specs.Playing.{Answers, Fate, IsEnd, IsNoCut, Player, plays, suits, telling}
 use Rattle.tcl_reactions.specs.Playing.Answers.{reads, ends, passes}
 use Rattle.tcl_reactions.specs.Playing.Fate.{EndsAbove}
-use Rattle.tcl_reactions.proofs.Turns.{calm_ending, not_some}
+use Rattle.tcl_reactions.proofs.Turns.{calm_ending}
 use Rattle.tcl_reactions.proofs.Ways.{Calm, calm_suits, outcome_append}
 
 -- no step is left where one is refused
@@ -152,6 +151,7 @@ module _ {O S : Type 0} (goes : Tree O → S → Wait → Event O → S → Type
   over_told T b s p Charged c f e t = subst (λ g. meets_by goes g T b s p Charged c) e t
   over_told T b s p (Refused m None) c f e t = subst (λ g. meets_by goes g T b s p (Refused m None) c) e t
   over_told T b s p Dropped c f e t = subst (λ g. meets_by goes g T b s p Dropped c) e t
+  over_told T b s p (Unfound q i d) c f e t = subst (λ g. meets_by goes g T b s p (Unfound q i d) c) e t
   over_told T b s p (Refused m (Some n)) c f e t = (tt, t)
   over_told T b s p Seen c f e t = (tt, t)
   over_told T b s p (Changed o) c f e t = (tt, t)
@@ -186,6 +186,7 @@ module _ {O S : Type 0} (goes : Tree O → S → Wait → Event O → S → Type
   over_plays T o s p (In h i) f e q = past_end (rise_to h p) o Prim.⊥ _ (λ n. elim n [ ]) q
   over_plays T o s p (Back h a) f e q = past_end (rise_to h p) o (IsEnd a) _ (λ n. passes f e n refl) q
   over_plays T o s p Charged f e q = absurd q
+  over_plays T o s p (Unfound t i d) f e q = absurd q
   over_plays T o s p (Refused Count None) f e q = refuses_over o.fate f o e
   over_plays T o s p (Refused Depth None) f e q = absurd q
   over_plays T o s p (Refused m (Some n)) f e q = refl
@@ -330,6 +331,7 @@ module _ {O S : Type 0} (goes : Tree O → S → Wait → Event O → S → Type
   plain_on N T b s p (In h i) c on l silent t = absurd l
   plain_on N T b s p (Done h r) c on l silent t = absurd l
   plain_on N T b s p (Back h a) c on l silent t = absurd l
+  plain_on N T b s p (Unfound q i d) c on l silent t = absurd l
   plain_on N T b s p Charged c on l silent t = charged N T b s p c on (on_told T b s p Charged c on t)
   plain_on N T b s p (Refused Count None) c on l silent t = refused_step N T b s p c on (on_told T b s p (Refused Count None) c on t)
   plain_on N T b s p (Refused Depth None) c on l silent t = absurd (on_told T b s p (Refused Depth None) c on t)
@@ -383,6 +385,7 @@ module _ {O S : Type 0} (goes : Tree O → S → Wait → Event O → S → Type
   inner_on N T b s p a (Back h y) c on e t =
       let g : Goes goes T b s (event p (Back h y)) b.left (halt_by (rise_to h p) y) c = on_told T b s p (Back h y) c on t in
       inner_by N T b s p (Back h y) c on g.left_so (g.halt_so ∙ ap (λ l. halt_by l y) e) (record { told = g.told }) (λ ms. sym (ap (λ l. where_none l (Come y) ms) e)) (λ k. refl) refl (λ o z same. past_inner (rise_to h p) a o z _ e same)
+  inner_on N T b s p a (Unfound q i d) c on e t = absurd e
   inner_on N T b s p a Charged c on e t = absurd e
   inner_on N T b s p a (Refused m h) c on e t = absurd e
   inner_on N T b s p a Dropped c on e t = absurd e
@@ -442,13 +445,27 @@ module _ {O S : Type 0} (goes : Tree O → S → Wait → Event O → S → Type
           (λ outs a. ended_by r c.halt t outs) (λ ms k outs n a. tells_on b.halt c.halt ms k outs (event t (Done None r)) on g.halt_so)
       by (Some f) e = over_step T b None t (Done None r) c f (λ outs. Unit {0}) (Ended_by r c.halt) e s (λ outs u. subst (λ h. Ended_by r h outs) (sym u) tt)
 
+  -- an entry that finds nobody, and its end
+  pub finds_nobody : (T : Tree O) (b : Budgeted S) (t : Path) (i : Entry) (d : Completion) (c : Budgeted S) → Crossings (budgeted goes) T b None (event [] (Unfound t i d)) c →
+      Leads b c (Calmly b.halt) (λ y z. both T y None (event [] (Unfound t i d)) z) (Ended_by (Completed d) c.halt)
+  finds_nobody T b t i d c s = by b.halt refl
+    where
+      by : (f : Option Halt) → b.halt ≡ f → Leads b c (Calmly b.halt) (λ y z. both T y None (event [] (Unfound t i d)) z) (Ended_by (Completed d) c.halt)
+      by None on =
+          let g : Goes goes T b None (event [] (Unfound t i d)) b.left None c = on_told T b None [] (Unfound t i d) c on s.told in
+          counted T b None [] (Unfound t i d) c (Calmly b.halt) (Ended_by (Completed d) c.halt) (λ ms. Enter t i ∷ ms) (λ outs. outs ++ event t (Done None (Completed d)) ∷ []) on g.left_so (not_spent b c None g.halt_so (λ v. cc)) (record { told = g.told }) (λ ms. refl) (λ k. refl) (λ outs. refl)
+          (λ outs a. ended_by (Completed d) c.halt t outs)
+          (λ ms k outs n a. (player b.halt ms k outs, (ap fate_by on, refl, refl), same_player c.halt b.halt ms k (outs ++ event t (Done None (Completed d)) ∷ []) (g.halt_so ∙ sym on)))
+      by (Some f) e = over_step T b None [] (Unfound t i d) c f (Calmly b.halt) (Ended_by (Completed d) c.halt) e s (λ outs u. subst (λ h. Ended_by (Completed d) h outs) (sym u) tt)
+
   -- the answer that comes back
-  answers_on : (T : Tree O) (s : Wait) (h g : Option Halt) (a : Answer) (ms : List (Move O)) (k : ℕ) (outs : List (Event O)) → h ≡ None → g ≡ halt_by None a → suits {O = O} (last outs) s (Come a) ≡ true → Answers T (player h (Come a ∷ ms) k outs) s a (player g ms k outs)
-  answers_on T s h g (Replied (Cut x)) ms k outs on off suit = ends (Replied (Cut x)) ms (ap fate_by on) refl suit tt tt (same_player g (Some Cuts) ms k outs off)
-  answers_on T s h g (Replied (Completed x)) ms k outs on off suit = reads ms (ap fate_by on) refl suit tt (same_player g h ms k outs (off ∙ sym on))
-  answers_on T s h g (Replied (Stop n m)) ms k outs on off suit = reads ms (ap fate_by on) refl suit tt (same_player g h ms k outs (off ∙ sym on))
-  answers_on T s h g (Replied (Exit n)) ms k outs on off suit = reads ms (ap fate_by on) refl suit tt (same_player g h ms k outs (off ∙ sym on))
-  answers_on T s h g (Heard x) ms k outs on off suit = reads ms (ap fate_by on) refl suit tt (same_player g h ms k outs (off ∙ sym on))
+  answers_on : (T : Tree O) (p : Place) (s : Wait) (h g : Option Halt) (a : Answer) (ms : List (Move O)) (k : ℕ) (outs : List (Event O)) → h ≡ None → g ≡ halt_by None a → suits (last outs) T p s (Come a) ≡ true → Answers T p (player h (Come a ∷ ms) k outs) s a (player g ms k outs)
+  answers_on T p s h g (Replied (Cut x)) ms k outs on off suit = ends (Replied (Cut x)) ms (ap fate_by on) refl suit tt tt (same_player g (Some Cuts) ms k outs off)
+  answers_on T p s h g (Replied (Completed x)) ms k outs on off suit = reads ms (ap fate_by on) refl suit tt (same_player g h ms k outs (off ∙ sym on))
+  answers_on T p s h g (Replied (Stop n m)) ms k outs on off suit = reads ms (ap fate_by on) refl suit tt (same_player g h ms k outs (off ∙ sym on))
+  answers_on T p s h g (Replied (Exit n)) ms k outs on off suit = reads ms (ap fate_by on) refl suit tt (same_player g h ms k outs (off ∙ sym on))
+  answers_on T p s h g (Heard x) ms k outs on off suit = reads ms (ap fate_by on) refl suit tt (same_player g h ms k outs (off ∙ sym on))
+  answers_on T p s h g Nobody ms k outs on off suit = reads ms (ap fate_by on) refl suit tt (same_player g h ms k outs (off ∙ sym on))
 
   not_spent_by : (b c : Budgeted S) (a : Answer) → c.halt ≡ halt_by None a → c.halt ≡ Some Spends → c.left ≡ 0
   not_spent_by b c (Replied (Cut x)) e u = not_spent b c (Some Cuts) e (λ v. cc) u
@@ -456,8 +473,9 @@ module _ {O S : Type 0} (goes : Tree O → S → Wait → Event O → S → Type
   not_spent_by b c (Replied (Stop n m)) e u = not_spent b c None e (λ v. cc) u
   not_spent_by b c (Replied (Exit n)) e u = not_spent b c None e (λ v. cc) u
   not_spent_by b c (Heard x) e u = not_spent b c None e (λ v. cc) u
+  not_spent_by b c Nobody e u = not_spent b c None e (λ v. cc) u
 
-  comes_back : (T : Tree O) (b : Budgeted S) (s : Wait) (p : Place) (h : Height) (a : Answer) (c : Budgeted S) (A B : List (Event O) → Type 0) → rise_to h p ≡ None → ((outs : List (Event O)) → b.halt ≡ None → A outs → suits {O = O} (last outs) s (Come a) ≡ true) →
+  comes_back : (T : Tree O) (b : Budgeted S) (s : Wait) (p : Place) (h : Height) (a : Answer) (c : Budgeted S) (A B : List (Event O) → Type 0) → rise_to h p ≡ None → ((outs : List (Event O)) → b.halt ≡ None → A outs → suits (last outs) T p s (Come a) ≡ true) →
       ((outs : List (Event O)) → b.halt ≡ None → A outs → B outs) → ((f : Halt) (outs : List (Event O)) → c.halt ≡ Some f → B outs) → Crossings (budgeted goes) T b s (event p (Back h a)) c → Leads b c A (λ y z. both T y s (event p (Back h a)) z) B
   comes_back T b s p h a c A B up suit holds over t = by b.halt refl
     where
@@ -466,15 +484,15 @@ module _ {O S : Type 0} (goes : Tree O → S → Wait → Event O → S → Type
           let g : Goes goes T b s (event p (Back h a)) b.left (halt_by (rise_to h p) a) c = on_told T b s p (Back h a) c on t.told in
           let off : c.halt ≡ halt_by None a = g.halt_so ∙ ap (λ l. halt_by l a) up in
           counted T b s p (Back h a) c A B (λ ms. Come a ∷ ms) (λ outs. outs) on g.left_so (not_spent_by b c a off) (record { told = g.told }) (λ ms. sym (ap (λ l. where_none l (Come a) ms) up)) (λ k. refl) (λ outs. sym (append-nil outs))
-          (λ outs x. holds outs on x) (λ ms k outs n x. past_top (rise_to h p) (player b.halt (Come a ∷ ms) k outs) (player c.halt ms k outs) _ up (answers_on T s b.halt c.halt a ms k outs on off (suit outs on x)))
+          (λ outs x. holds outs on x) (λ ms k outs n x. past_top (rise_to h p) (player b.halt (Come a ∷ ms) k outs) (player c.halt ms k outs) _ up (answers_on T p s b.halt c.halt a ms k outs on off (suit outs on x)))
       by (Some f) e = over_step T b s p (Back h a) c f A B e t (λ outs u. over f outs u)
 
-  pub answered_back : (T : Tree O) (b : Budgeted S) (s : Wait) (p : Place) (h : Height) (a : Answer) (c : Budgeted S) → rise_to h p ≡ None → answers_call s a ≡ true → Crossings (budgeted goes) T b s (event p (Back h a)) c →
+  pub answered_back : (T : Tree O) (b : Budgeted S) (s : Wait) (p : Place) (h : Height) (a : Answer) (c : Budgeted S) → rise_to h p ≡ None → fits T p s (Come a) ≡ true → Crossings (budgeted goes) T b s (event p (Back h a)) c →
       Leads b c (Calmly b.halt) (λ y z. both T y s (event p (Back h a)) z) (Calmly c.halt)
-  answered_back T b s p h a c up fit t = comes_back T b s p h a c (Calmly b.halt) (Calmly c.halt) up (λ outs on x. calm_suits O (last outs) s (Come a) (subst (λ (g : Option Halt). Calmly g outs) on x) ∙ fit)
+  answered_back T b s p h a c up fit t = comes_back T b s p h a c (Calmly b.halt) (Calmly c.halt) up (λ outs on x. calm_suits O (last outs) T p s (Come a) (subst (λ (g : Option Halt). Calmly g outs) on x) ∙ fit)
       (λ outs on x. calmly b.halt c.halt outs on x) (λ f outs u. over_calm c f outs u) t
 
   pub exit_back : (T : Tree O) (b : Budgeted S) (s : Wait) (p : Place) (h : Height) (n : ℤ) (c : Budgeted S) → rise_to h p ≡ None → Crossings (budgeted goes) T b s (event p (Back h (Replied (Exit n)))) c →
       Leads b c (Ended_by (Exit n) b.halt) (λ y z. both T y s (event p (Back h (Replied (Exit n)))) z) (λ outs. Unit {0})
   exit_back T b s p h n c up t = comes_back T b s p h (Replied (Exit n)) c (Ended_by (Exit n) b.halt) (λ outs. Unit {0}) up
-      (λ outs on x. ap (λ y. suits {O = O} y s (Come (Replied (Exit n)))) (subst (λ (g : Option Halt). Ended_by (Exit n) g outs) on x) ∙ is_exit_self n) (λ outs on x. tt) (λ f outs u. tt) t
+      (λ outs on x. ap (λ y. suits y T p s (Come (Replied (Exit n)))) (subst (λ (g : Option Halt). Ended_by (Exit n) g outs) on x) ∙ is_exit_self n) (λ outs on x. tt) (λ f outs u. tt) t

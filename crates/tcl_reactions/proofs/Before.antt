@@ -1,7 +1,7 @@
 -- What a subtree does by itself, up to where control comes in.
 use Rattle.std.proofs.Common.{sym, ◌≡◌, ℕ, zero, suc, ◌≤◌, ◌<◌, ◌+◌, true, false, nat_lt, List, [], ◌∷◌, ◌++◌, Option, Some, None, refl, ◌∙◌, ap, subst, arith}
 use Rattle.std.proofs.lemmas.Bool.Decides.{nat_tests}
-use Rattle.tcl_core.specs.Paths.{Place, rise_to}
+use Rattle.tcl_core.specs.Paths.{Place, rise_to, Path}
 use Rattle.tcl_core.specs.Endings.{Reply}
 use Rattle.tcl_core.specs.Endings.Reply.{Completed, Stop, Exit, Cut}
 use Rattle.tcl_core.specs.Entries.{Entry}
@@ -14,10 +14,10 @@ use Rattle.tcl_core.specs.Lives.Reacts.{over, waiting}
 use Rattle.tcl_core.specs.Programs.{Table}
 use Rattle.tcl_core.specs.Programs.Prog.{wait}
 use Rattle.tcl_core.specs.Rules.{Derives}
-use Rattle.tcl_core.specs.Runs.{Step, RunsIn, Stays, Waits, World, entering}
-use Rattle.tcl_core.specs.Trees.{Event, Move, Tree, What}
+use Rattle.tcl_core.specs.Runs.{Step, RunsIn, Stays, Waits, World, Enters}
+use Rattle.tcl_core.specs.Trees.{Event, Move, Tree, What, Node}
 use Rattle.tcl_core.specs.Trees.Move.{Born, Fall, Enter, Come}
-use Rattle.tcl_core.specs.Trees.What.{Made, Dropped, In, Done}
+use Rattle.tcl_core.specs.Trees.What.{Made, Dropped, In, Done, Unfound}
 use Rattle.tcl_core.proofs.Balance
 use Rattle.tcl_core.proofs.Balance.{Owes, done_at, dones, in_at, ins, owes}
 use Rattle.tcl_core.proofs.Halts.{halted_tape}
@@ -126,21 +126,21 @@ module _ {O I : Type 0} (prog : Table O I) (k : ℕ) (next : Event O) (late : Li
         let r : u.tape ≡ a ++ next ∷ late = cc in
         (a, ap (λ y. y ∷ a) one, r, n.1)
 
-    entered_none : (w inner left : World O) (t : Place) (i : Entry) (a : List (Event O)) → Derives prog inner t (entering prog (w.tree t) i) left None → Meets inner a → IsUnended a → Open (event t (In None i) ∷ a)
+    entered_none : (w inner left : World O) (t : Place) (i : Entry) (a : List (Event O)) → Derives prog inner t (prog.entry i) left None → Meets inner a → IsUnended a → Open (event t (In None i) ∷ a)
     unfolding Open
     entered_none w inner left t i a d q n = by (paused prog k next late reads d a q n)
       where
-        by : Paused prog k next late reads inner t (entering prog (w.tree t) i) left None a → Open (event t (In None i) ∷ a)
+        by : Paused prog k next late reads inner t (prog.entry i) left None a → Open (event t (In None i) ∷ a)
         by (whole a1 q1 m g h) = no_more k next late left a1 (halted_tape prog d refl) q1
         by (gone c a1 q1 m e g) = none_not (Cut c) e
-        by (stops h) = let b = in_progress inner.tree (after a inner.tree) a t (entering prog (w.tree t) i) h in let c : begun a ≡ ended a + b.0 = b.1 in (b.0, (let e : suc (begun a) ≡ ended a + suc b.0 = omega arith in e))
+        by (stops h) = let b = in_progress inner.tree (after a inner.tree) a t (prog.entry i) h in let c : begun a ≡ ended a + b.0 = b.1 in (b.0, (let e : suc (begun a) ≡ ended a + suc b.0 = omega arith in e))
 
-    entered_some : (w inner left told : World O) (t : Place) (i : Entry) (r : Reply) (a : List (Event O)) → Derives prog inner t (entering prog (w.tree t) i) left (Some r) → Step left t (Done None r) told → Meets inner a → IsUnended a →
+    entered_some : (w inner left told : World O) (t : Place) (i : Entry) (r : Reply) (a : List (Event O)) → Derives prog inner t (prog.entry i) left (Some r) → Step left t (Done None r) told → Meets inner a → IsUnended a →
         ((a1 : List (Event O)) → Meets told a1 → IsUnended a1 → Open a1) → Open (event t (In None i) ∷ a)
     unfolding Open
     entered_some w inner left told t i r a d s q n rest = by (paused prog k next late reads d a q n)
       where
-        by : Paused prog k next late reads inner t (entering prog (w.tree t) i) left (Some r) a → Open (event t (In None i) ∷ a)
+        by : Paused prog k next late reads inner t (prog.entry i) left (Some r) a → Open (event t (In None i) ∷ a)
         by (whole a1 q1 m g h) =
             let p = peeled k next late reads left t (Done None r) told a1 s (λ ms. refl) q1 m in
             let o : Owes [] (given inner.tree a) (given left.tree a1) (Some r) = owes [] prog h in
@@ -156,7 +156,7 @@ module _ {O I : Type 0} (prog : Table O I) (k : ℕ) (next : Event O) (late : Li
             let d1 : ended a1 ≡ dones [] a1 = ended_dones a1 in
             (j.0, (let e : suc (begun a) ≡ ended a + suc j.0 = omega arith in e))
         by (gone c a1 q1 m e g) = let p = peeled k next late reads left t (Done None r) told a1 s (λ ms. refl) q1 m in done_not_cut O t r c p.2 e
-        by (stops h) = let b = in_progress inner.tree (after a inner.tree) a t (entering prog (w.tree t) i) h in let c : begun a ≡ ended a + b.0 = b.1 in (b.0, (let e : suc (begun a) ≡ ended a + suc b.0 = omega arith in e))
+        by (stops h) = let b = in_progress inner.tree (after a inner.tree) a t (prog.entry i) h in let c : begun a ≡ ended a + b.0 = b.1 in (b.0, (let e : suc (begun a) ≡ ended a + suc b.0 = omega arith in e))
 
     Opens : ℕ → Type 0
     Opens n = (z y : World O) (a : List (Event O)) → Meets z a → IsUnended a → y.tape ≡ [] → RunsIn prog n z [] (wait idle never) y None → Open a
@@ -168,18 +168,23 @@ module _ {O I : Type 0} (prog : Table O I) (k : ℕ) (next : Event O) (late : Li
     after_entry n ih u y (Cut c) a t m f s = ih u y a t m f s
     after_entry n ih u y (Exit l) a t m f s = no_more k next late u a (exits_idle u l u.moves y s).tape t
 
+    open_entry : (n : ℕ) → Opens n → (z y : World O) (a : List (Event O)) → Meets z a → IsUnended a → y.tape ≡ [] → (q : Path) (i : Entry) (x : Option (Node O)) → Enters prog (RunsIn prog n) z [] idle never q i x y None → Open a
+    unfolding Opens Open
+    open_entry n ih z y a t m f q i None (u, st, h) = let p = passed z [] (Unfound q i (prog.lost q)) u a st (λ j. j) t m in subst Open (sym p.1) (ih u y p.0 p.2 p.3 f h)
+    open_entry n ih z y a t m f q i (Some x) (u, None, v, s) =
+        let p = passed z q (In None i) v.entered a v.entry (λ j. j) t m in
+        subst Open (sym p.1) (entered_none z v.entered v.left q i p.0 (runs_derived prog v.entered q (prog.entry i) v.left None (n, v.run)) p.2 p.3)
+    open_entry n ih z y a t m f q i (Some x) (u, Some r, v, s) =
+        let p = passed z q (In None i) v.entered a v.entry (λ j. j) t m in
+        subst Open (sym p.1) (entered_some z v.entered v.left u q i r p.0 (runs_derived prog v.entered q (prog.entry i) v.left (Some r) (n, v.run)) v.leaving p.2 p.3 (λ a1 t1 n1. after_entry n ih u y r a1 t1 n1 f s))
+
     open_next : (n : ℕ) → Opens n → (z y : World O) (a : List (Event O)) → Meets z a → IsUnended a → y.tape ≡ [] → (ms : List (Move O)) → Waits prog (RunsIn prog n) z [] idle never ms y None → Open a
     unfolding Opens Open
     open_next n ih z y a t m f [] h = no_more k next late z a h.tape t
     open_next n ih z y a t m f (Come x ∷ ms) h = no_more k next late z a h.tape t
     open_next n ih z y a t m f (Born o s ∷ ms) (u, st, h) = let p = passed z [] (Made o s) u a st (λ j. j) t m in subst Open (sym p.1) (ih u y p.0 p.2 p.3 f h)
     open_next n ih z y a t m f (Fall ∷ ms) (u, st, h) = let p = passed z [] Dropped u a st (λ j. j) t m in subst Open (sym p.1) (ih u y p.0 p.2 p.3 f h)
-    open_next n ih z y a t m f (Enter q i ∷ ms) (u, None, v, s) =
-        let p = passed z q (In None i) v.entered a v.entry (λ j. j) t m in
-        subst Open (sym p.1) (entered_none z v.entered v.left q i p.0 (runs_derived prog v.entered q (entering prog (z.tree q) i) v.left None (n, v.run)) p.2 p.3)
-    open_next n ih z y a t m f (Enter q i ∷ ms) (u, Some r, v, s) =
-        let p = passed z q (In None i) v.entered a v.entry (λ j. j) t m in
-        subst Open (sym p.1) (entered_some z v.entered v.left u q i r p.0 (runs_derived prog v.entered q (entering prog (z.tree q) i) v.left (Some r) (n, v.run)) v.leaving p.2 p.3 (λ a1 t1 n1. after_entry n ih u y r a1 t1 n1 f s))
+    open_next n ih z y a t m f (Enter q i ∷ ms) h = open_entry n ih z y a t m f q i (z.tree q) h
 
     opens : (n : ℕ) → Opens n
     unfolding Opens

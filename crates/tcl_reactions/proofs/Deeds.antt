@@ -8,7 +8,7 @@ use Rattle.tcl_core.specs.Endings.Cause.{Above, Over}
 use Rattle.tcl_core.specs.Trees.{Tree, What, Grants, granted}
 use Rattle.tcl_core.specs.Trees.Grant.{Allow, Deny}
 use Rattle.tcl_core.specs.Trees.Grants.{Listed, Budget}
-use Rattle.tcl_core.specs.Trees.What.{Seen, Charged, Nested, Limited, DepthLimited, Refused, Done}
+use Rattle.tcl_core.specs.Trees.What.{Seen, Charged, Nested, Limited, DepthLimited, Refused, Done, Unfound}
 use Rattle.tcl_core.specs.Programs.{Deed, spot, Act, Wrap, decide, opens, changing, making, dropping, metered, by_limit, blocked, is_spent, is_deep}
 use Rattle.tcl_core.specs.Programs.Act.{Look, Change, Charge, Limit, LimitDepth, Make, Drop}
 use Rattle.tcl_core.specs.Programs.Wrap.{Deeper, Framed}
@@ -57,6 +57,7 @@ module _ {O : Type 0} where
 
   plain_end : (p : Place) (x : What O) (y : Outcome) → IsPlain x → outcome_at p x y ≡ y
   plain_end p (Done h r) y f = absurd f
+  plain_end p (Unfound t i z) y f = absurd f
   plain_end p x y f = refl
 
   pub plain_calm : (p : Place) (x : What O) (o u : Player O) → IsPlain x → Way 0 o (event p x ∷ []) u → Calm (last_end o) → Calm (last_end u)

@@ -1,32 +1,32 @@
 -- What playings leave of depths.
-use Rattle.std.proofs.Common.{◌≡◌, ◌∙◌, ℕ, zero, suc, List, [], ◌∷◌, ◌++◌, Option, Some, None, refl, subst}
+use Rattle.std.proofs.Common.{true, false, ◌⊎◌, inl, inr, ◌≡◌, ◌∙◌, ℕ, zero, suc, List, [], ◌∷◌, ◌++◌, Option, Some, None, refl, subst, inl, Bool, inr}
 use Rattle.tcl_core.specs.Endings.{Meter, Reply}
 use Rattle.tcl_core.specs.Endings.Meter.{Count, Depth}
 use Rattle.tcl_core.specs.Endings.Reply.{Cut}
 use Rattle.tcl_core.specs.Endings.Cause.{Above, Over}
 use Rattle.tcl_core.specs.Execution.{Chain, Crossings, Open, Decides, Executes, Opens_so, before, more, none}
-use Rattle.tcl_core.specs.Execution.Executes.{completed, exited, acted, refused, went, passed, wrapped, wrapped_passed, too_deep, shut, called, called_passed, unreached, called_out, answered, heard, answered_passed, entered, entered_exiting}
-use Rattle.tcl_core.specs.Laws.{IsSteady, IsUpright, KeepsTop, depth_of}
+use Rattle.tcl_core.specs.Execution.Executes.{completed, exited, acted, refused, went, passed, wrapped, wrapped_passed, too_deep, shut, called, called_passed, unreached, called_out, answered, heard, missed, answered_passed, entered, entered_exiting, unfound}
+use Rattle.tcl_core.specs.Laws.{IsSteady, IsUpright, KeepsTop, is_spared, depth_left}
 use Rattle.tcl_core.specs.Paths.{Place, rise_to}
-use Rattle.tcl_core.specs.Programs.{Act, Deed, Prog, Table, Wait, Wrap, spot, closes, changing, making, dropping, dropping_at, metered, by_limit, blocked, is_spent, is_deep}
+use Rattle.tcl_core.specs.Programs.{Act, Deed, Prog, Table, Wait, Wrap, spot, closes, changing, making, dropping, metered, by_limit, blocked, is_spent, is_deep}
 use Rattle.tcl_core.specs.Programs.Act.{Look, Change, Charge, Limit, LimitDepth, Make, Drop}
 use Rattle.tcl_core.specs.Programs.Next.{On, Off}
 use Rattle.tcl_core.specs.Programs.Wrap.{Deeper, Framed}
-use Rattle.tcl_core.specs.Trees.{Event, Grants, Move, Node, Tree, What, asked, at_top, granted, where_none}
+use Rattle.tcl_core.specs.Trees.{Event, Grants, Move, Node, Tree, What, asked, at_top, granted, where_none, depth_of, effect}
 use Rattle.tcl_core.specs.Trees.Grant.{Allow, Deny}
 use Rattle.tcl_core.specs.Trees.Grants.{Listed, Budget}
 use Rattle.tcl_core.specs.Trees.Move.{Born, Fall, Enter, Come}
-use Rattle.tcl_core.specs.Trees.What.{Seen, Charged, Refused, Limited, DepthLimited, Nested, Made, Dropped, In, Back}
+use Rattle.tcl_core.specs.Trees.What.{Seen, Charged, Refused, Limited, DepthLimited, Nested, Made, Dropped, In, Back, Unfound}
 use Rattle.tcl_core.specs.Views.{moves_of}
 use Rattle.tcl_core.proofs.Depths.{steady}
-use Rattle.tcl_core.specs.Runs.{entering}
-use Rattle.tcl_core.proofs.Callers.{Fits, entering_calls, fit}
+use Rattle.tcl_core.proofs.Callers.{Fits, fit}
 use Rattle.tcl_core.proofs.Following.{makes}
 use Rattle.tcl_core.proofs.PathLaws.{not_both, Some-inj, child_no_top}
 use Rattle.tcl_core.proofs.Reacting.{IsLasting, Lasting}
 use Rattle.tcl_reactions.specs.Laws.{DepthsStay}
-use Rattle.tcl_reactions.specs.Playing.Lived.{begun, entered as came}
+use Rattle.tcl_reactions.specs.Playing.Lived.{begun, entered as came, unfound as strayed}
 use Rattle.tcl_reactions.specs.Playing.{Lived, Player, plays}
+use Rattle.tcl_core.proofs.TreeLaws.{any_close}
 
 -- ## No act makes or drops the tree's top
 
@@ -57,11 +57,7 @@ module _ {O : Type 0} where
 
   dropping_lasts : (p : Place) (name : List ℕ) (n : Option (Node O)) → Lasts_by p (dropping name n)
   dropping_lasts p name None = tt
-  dropping_lasts p name (Some n) = by n.depth
-    where
-      by : (d : ℕ) → Lasts_by p (dropping_at {O = O} name d)
-      by zero = child_no_top p name
-      by (suc d) = tt
+  dropping_lasts p name (Some n) = child_no_top p name
 
   decides_lasts : (d : Act O) (T : Tree O) (p : Place) (x : Deed O) → Decides d T p x → Lasting (spot p x.0) x.1
   decides_lasts Look T p x e = of_deed p (None, Seen, On) x tt (e [])
@@ -76,10 +72,8 @@ module _ {O : Type 0} where
   opens_lasts Deeper T p x e = metered_lasts p Depth Nested (blocked is_deep T p) (granted (spot p x.0) x.1 (Listed [])) x tt (e [])
   opens_lasts (Framed own back) T p x e = of_deed p (changing own (T p)) x (changing_lasts p own (T p)) (e [])
 
-  closes_lasts : (p : Place) (b : Wrap O) (n : Option (Node O)) → Lasting p (closes b n)
-  closes_lasts p Deeper n = tt
-  closes_lasts p (Framed own back) None = tt
-  closes_lasts p (Framed own back) (Some n) = tt
+  closes_lasts : (p : Place) (b : Wrap O) (m n : Option (Node O)) → Lasting p (closes b m n)
+  closes_lasts p b m n = any_close (Lasting p) b m n tt tt (λ o. tt)
 
 -- ## So no run does
 
@@ -104,8 +98,8 @@ module _ {O I S : Type 0} (step : Tree O → S → Wait → Event O → S → Ty
   lasts (refused {T = T} {p = p} {d = d} x is_so off s) = refused x is_so off (stays step _ _ _ _ _ s (decides_lasts d T p x is_so))
   lasts (went a b) = went (lasts a) (lasts b)
   lasts (passed q a) = passed q (lasts a)
-  lasts (wrapped {T = T} {U = U} {p = p} {b = b} x is_so on s1 a s2 t) = wrapped x is_so on (stays step _ _ _ _ _ s1 (opens_lasts b T p x is_so)) (lasts a) (stays step _ _ _ _ _ s2 (closes_lasts p b (U p))) (lasts t)
-  lasts (wrapped_passed {T = T} {U = U} {p = p} {b = b} x q is_so on s1 a s2) = wrapped_passed x q is_so on (stays step _ _ _ _ _ s1 (opens_lasts b T p x is_so)) (lasts a) (stays step _ _ _ _ _ s2 (closes_lasts p b (U p)))
+  lasts (wrapped {T = T} {U = U} {p = p} {b = b} x is_so on s1 a s2 t) = wrapped x is_so on (stays step _ _ _ _ _ s1 (opens_lasts b T p x is_so)) (lasts a) (stays step _ _ _ _ _ s2 (closes_lasts p b (effect (spot p x.0) x.1 T p) (U p))) (lasts t)
+  lasts (wrapped_passed {T = T} {U = U} {p = p} {b = b} x q is_so on s1 a s2) = wrapped_passed x q is_so on (stays step _ _ _ _ _ s1 (opens_lasts b T p x is_so)) (lasts a) (stays step _ _ _ _ _ s2 (closes_lasts p b (effect (spot p x.0) x.1 T p) (U p)))
   lasts (too_deep {T = T} {p = p} {b = b} x is_so deep s t) = too_deep x is_so deep (stays step _ _ _ _ _ s (opens_lasts b T p x is_so)) (lasts t)
   lasts (shut {T = T} {p = p} {b = b} x is_so off s) = shut x is_so off (stays step _ _ _ _ _ s (opens_lasts b T p x is_so))
   lasts (called a t up at s1 s2 run s3 is s4 rest) =
@@ -116,9 +110,11 @@ module _ {O I S : Type 0} (step : Tree O → S → Wait → Event O → S → Ty
   lasts (called_out up s t) = called_out up (stays step _ _ _ _ _ s tt) (lasts t)
   lasts (answered up fit s t) = answered up fit (stays step _ _ _ _ _ s tt) (lasts t)
   lasts (heard up fit s t) = heard up fit (stays step _ _ _ _ _ s tt) (lasts t)
+  lasts (missed up fit s t) = missed up fit (stays step _ _ _ _ _ s tt) (lasts t)
   lasts (answered_passed q up fit s) = answered_passed q up fit (stays step _ _ _ _ _ s tt)
-  lasts (entered t i up s1 run s2 calm rest) = entered t i up (stays step _ _ _ _ _ s1 tt) (lasts run) (stays step _ _ _ _ _ s2 tt) calm (lasts rest)
-  lasts (entered_exiting t i up s1 run s2 s3) = entered_exiting t i up (stays step _ _ _ _ _ s1 tt) (lasts run) (stays step _ _ _ _ _ s2 tt) (stays step _ _ _ _ _ s3 tt)
+  lasts (entered t i up here s1 run s2 calm rest) = entered t i up here (stays step _ _ _ _ _ s1 tt) (lasts run) (stays step _ _ _ _ _ s2 tt) calm (lasts rest)
+  lasts (entered_exiting t i up here s1 run s2 s3) = entered_exiting t i up here (stays step _ _ _ _ _ s1 tt) (lasts run) (stays step _ _ _ _ _ s2 tt) (stays step _ _ _ _ _ s3 tt)
+  lasts (unfound t i up here s rest) = unfound t i up here (stays step _ _ _ _ _ s tt) (lasts rest)
 
 -- ## And so it reads no move of the top
 
@@ -136,6 +132,7 @@ module _ {O : Type 0} where
   keeps_one p (Back h a) ms f k = keeps_none (rise_to h p) (Come a) ms (λ j. j) k
   keeps_one p (Made o s) ms f k = keeps_at_top p (Born o s) ms f k
   keeps_one p Dropped ms f k = keeps_at_top p Fall ms f k
+  keeps_one p (Unfound t i c) ms f k = k
   keeps_one p _ ms f k = k
 
   keeps_top : (τ : List (Event O)) → IsLasting τ → KeepsTop (moves_of τ)
@@ -144,21 +141,35 @@ module _ {O : Type 0} where
 
 -- ## Depths
 
+-- as deep as before, or not in use
+abbrev SameOrNone : ℕ → ℕ → Type 0
+SameOrNone m n = (n ≡ m) ⊎ (n ≡ 0)
+
+left_so : (b : Bool) (m n : ℕ) → n ≡ depth_left b m → SameOrNone m n
+left_so true m n e = inl e
+left_so false m n e = inr e
+
+one_more : (a b c : ℕ) → SameOrNone a b → SameOrNone b c → SameOrNone a c
+one_more a b c f (inr g) = inr g
+one_more a b c (inl f) (inl g) = inl (g ∙ f)
+one_more a b c (inr f) (inl g) = inr (g ∙ f)
+
 module _ {O I S : Type 0} (step : Tree O → S → Wait → Event O → S → Type 0) (prog : Table O I) where
   -- an entry that was done leaves each depth
-  run_steady : (T V : Tree O) (o z : S) (p : Place) (x : Prog O I) (r : Reply) → Fits x → Executes step prog T o p x V z r → IsUpright T → IsUpright V × ((q : Place) → depth_of (V q) ≡ depth_of (T q))
+  run_steady : (T V : Tree O) (o z : S) (p : Place) (x : Prog O I) (r : Reply) → Fits x → Executes step prog T o p x V z r → IsUpright T → IsUpright V × ((q : Place) → SameOrNone (depth_of (T q)) (depth_of (V q)))
   run_steady T V o z p x r f run up =
       let made = makes (Lastingly step) prog f (lasts step prog run) in
       let s : IsSteady (before T made.events) (before V []) (Some r) = steady prog (before T made.events) (before V []) p x (Some r) made.runs up (keeps_top made.events (all_last step made.chain)) in
-      (s.upright r refl, s.depths r refl)
+      (s.upright r refl, λ q. left_so (is_spared q s.made) (depth_of (T q)) (depth_of (V q)) (s.depths r refl q))
 
 module _ {O I : Type 0} (prog : Table O I) where
-  lived_steady : {S : Tree O} {o : Player O} {V : Tree O} {z : Player O} → Lived prog S o V z → IsUpright S → IsUpright V × ((q : Place) → depth_of (V q) ≡ depth_of (S q))
-  lived_steady begun up = (up, λ q. refl)
-  lived_steady (came {U} {V} {u} {w} {v} {z} t i r l calm last enters run leaves) up =
+  lived_steady : {S : Tree O} {o : Player O} {V : Tree O} {z : Player O} → Lived prog S o V z → IsUpright S → IsUpright V × ((q : Place) → SameOrNone (depth_of (S q)) (depth_of (V q)))
+  lived_steady begun up = (up, λ q. inl refl)
+  lived_steady {S} (came {U = U} {V = V} {w = w} {v = v} t i r l calm last here enters run leaves) up =
       let h = lived_steady l up in
-      let k = run_steady (Crossings plays) prog U V w v t _ r (fit (entering prog (U t) i) (entering_calls prog (U t) i)) run h.0 in
-      (k.0, λ q. k.1 q ∙ h.1 q)
+      let k = run_steady (Crossings plays) prog U V w v t _ r (fit (prog.entry i) (prog.entries_call i)) run h.0 in
+      (k.0, λ q. one_more (depth_of (S q)) (depth_of (U q)) (depth_of (V q)) (h.1 q) (k.1 q))
+  lived_steady (strayed t i l calm last here reads) up = lived_steady l up
 
 module _ {O I : Type 0} where
   pub depths_stay : DepthsStay O I

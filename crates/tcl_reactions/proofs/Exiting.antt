@@ -10,7 +10,7 @@ use Rattle.tcl_core.specs.Trees.What.{Done, Back}
 use Rattle.tcl_core.specs.Programs.{Prog, Table, Wait, closes, spot}
 use Rattle.tcl_core.specs.Runs.{Ending, Exiting, Exits, Halts, Step, World, ends_call, height_of}
 use Rattle.tcl_core.specs.Rules.{Derives, IsNoExit}
-use Rattle.tcl_core.specs.Rules.Derives.{completed, exited, acted, refused, unheard, went, passed, halted, wrapped, wrapped_passed, wrapped_halted, too_deep, shut, unheard_inside, called, called_passed, called_halted, unreached, called_out, unanswered, unfit, answered, heard, answered_passed, entered, entered_halted, entered_exiting, born, fallen}
+use Rattle.tcl_core.specs.Rules.Derives.{completed, exited, acted, refused, unheard, went, passed, halted, wrapped, wrapped_passed, wrapped_halted, too_deep, shut, unheard_inside, called, called_passed, called_halted, unreached, called_out, unanswered, unfit, answered, heard, missed, answered_passed, entered, entered_halted, entered_exiting, born, fallen, unfound}
 use Rattle.tcl_core.proofs.Plain.{IsPlain, closes_plain, decide_plain, opens_plain}
 
 module _ {O : Type 0} where
@@ -81,9 +81,9 @@ module _ {O I : Type 0} (prog : Table O I) where
   exiting (passed w p i k u r q a) h = exiting a h
   exiting (halted w p i k u a) h = exiting a h
   exiting (wrapped w p b i k x inner left closed v y e g on s a t z) h =
-      plain w (spot p x.0) x.1 inner s (opens_plain b w.tree p w.grants x g) (exiting a (plain left p (closes b (left.tree p)) closed t (closes_plain b (left.tree p)) (exiting z h)))
+      plain w (spot p x.0) x.1 inner s (opens_plain b w.tree p w.grants x g) (exiting a (plain left p (closes b (inner.tree p) (left.tree p)) closed t (closes_plain b (inner.tree p) (left.tree p)) (exiting z h)))
   exiting (wrapped_passed w p b i k x inner left closed r q g on s a t) h =
-      plain w (spot p x.0) x.1 inner s (opens_plain b w.tree p w.grants x g) (exiting a (plain left p (closes b (left.tree p)) closed t (closes_plain b (left.tree p)) h))
+      plain w (spot p x.0) x.1 inner s (opens_plain b w.tree p w.grants x g) (exiting a (plain left p (closes b (inner.tree p) (left.tree p)) closed t (closes_plain b (inner.tree p) (left.tree p)) h))
   exiting (wrapped_halted w p b i k x inner left g on s a) h = plain w (spot p x.0) x.1 inner s (opens_plain b w.tree p w.grants x g) (exiting a h)
   exiting (too_deep w p b i k x u v e g deep s a) h = plain w (spot p x.0) x.1 u s (opens_plain b w.tree p w.grants x g) (exiting a h)
   exiting (shut w p b i k x r u g off s) h = plain w (spot p x.0) x.1 u s (opens_plain b w.tree p w.grants x g) h
@@ -99,11 +99,13 @@ module _ {O I : Type 0} (prog : Table O I) where
   exiting (unfit w p s k m ms g j l t) h = h
   exiting (answered w p s k y u v e g j t a) h = goes w p _ u t (λ z. absurd z) (exiting a h)
   exiting (heard w p s k y u v e g j t a) h = goes w p _ u t (λ z. absurd z) (exiting a h)
+  exiting (missed w p s k u v e g j t a) h = goes w p _ u t (λ z. absurd z) (exiting a h)
   exiting (answered_passed w p s k r u q g j t) h = goes w p _ u t (λ z. absurd z) h
-  exiting (entered w p s k t i inner left told v r e g s1 a s2 n b) h = goes w t _ inner s1 (λ z. absurd z) (exiting a (goes left t _ told s2 (no_exit O r told.tape n) (exiting b h)))
-  exiting (entered_halted w p s k t i inner left g s1 a) h = goes w t _ inner s1 (λ z. absurd z) (exiting a h)
-  exiting (entered_exiting w p s k t i inner left told v n e g s1 a s2 b) h =
+  exiting (entered w p s k t i inner left told v r e g here s1 a s2 n b) h = goes w t _ inner s1 (λ z. absurd z) (exiting a (goes left t _ told s2 (no_exit O r told.tape n) (exiting b h)))
+  exiting (entered_halted w p s k t i inner left g here s1 a) h = goes w t _ inner s1 (λ z. absurd z) (exiting a h)
+  exiting (entered_exiting w p s k t i inner left told v n e g here s1 a s2 b) h =
       let z = exits_obey told p s n told.moves v e b h in
       goes w t _ inner s1 (λ z. absurd z) (exiting a (goes left t _ told s2 (λ f. z.0) z.1))
   exiting (born w p s k o b u v e g t a) h = goes w [] _ u t (λ z. absurd z) (exiting a h)
+  exiting (unfound w p s k t i u v e g here b a) h = goes w [] _ u b (λ z. absurd z) (exiting a h)
   exiting (fallen w p s k u v e g t a) h = goes w [] _ u t (λ z. absurd z) (exiting a h)

@@ -10,7 +10,7 @@ use Rattle.tcl_core.specs.Trees.What.{Back}
 use Rattle.tcl_core.specs.Programs.{Prog, Table, Wait, spot}
 use Rattle.tcl_core.specs.Runs.{Ending, Exiting, Exits, Halts, Step, World, ends_call, height_of}
 use Rattle.tcl_core.specs.Rules.{Derives}
-use Rattle.tcl_core.specs.Rules.Derives.{completed, exited, acted, refused, unheard, went, passed, halted, wrapped, wrapped_passed, wrapped_halted, too_deep, shut, unheard_inside, called, called_passed, called_halted, unreached, called_out, unanswered, unfit, answered, heard, answered_passed, entered, entered_halted, entered_exiting, born, fallen}
+use Rattle.tcl_core.specs.Rules.Derives.{completed, exited, acted, refused, unheard, went, passed, halted, wrapped, wrapped_passed, wrapped_halted, too_deep, shut, unheard_inside, called, called_passed, called_halted, unreached, called_out, unanswered, unfit, answered, heard, missed, answered_passed, entered, entered_halted, entered_exiting, born, fallen, unfound}
 use Rattle.tcl_core.proofs.MoreMoves.{asked_more, none_not}
 
 module _ {O : Type 0} where
@@ -73,11 +73,13 @@ module _ {O I : Type 0} (prog : Table O I) (more : List (Move O)) (σ : List (Ev
   extended (unfit w p s k a ms f g h t) z q = none_not z q
   extended (answered w p s k c u v e f g t a) z q = answered (ext w) p s k c (ext u) (ext v) e f g (step_extended w p _ u t) (extended a z q)
   extended (heard w p s k y u v e f g t a) z q = heard (ext w) p s k y (ext u) (ext v) e f g (step_extended w p _ u t) (extended a z q)
+  extended (missed w p s k u v e f g t a) z q = missed (ext w) p s k (ext u) (ext v) e f g (step_extended w p _ u t) (extended a z q)
   extended (answered_passed w p s k r u l f g t) z q = answered_passed (ext w) p s k r (ext u) l f g (step_extended w p _ u t)
-  extended (entered w p s k t i inner left told v r e f s1 a s2 n b) z q =
-      entered (ext w) p s k t i (ext inner) (ext left) (ext told) (ext v) r e f (step_extended w t _ inner s1) (extended a r refl) (step_extended left t _ told s2) n (extended b z q)
-  extended (entered_halted w p s k t i inner left f s1 a) z q = none_not z q
-  extended (entered_exiting w p s k t i inner left told v n e f s1 a s2 b) z q =
-      entered_exiting (ext w) p s k t i (ext inner) (ext left) (ext told) (ext v) n e f (step_extended w t _ inner s1) (extended a (Exit n) refl) (step_extended left t _ told s2) (exits_extended told p s n told.moves v e z q b)
+  extended (entered w p s k t i inner left told v r e f here s1 a s2 n b) z q =
+      entered (ext w) p s k t i (ext inner) (ext left) (ext told) (ext v) r e f here (step_extended w t _ inner s1) (extended a r refl) (step_extended left t _ told s2) n (extended b z q)
+  extended (entered_halted w p s k t i inner left f here s1 a) z q = none_not z q
+  extended (entered_exiting w p s k t i inner left told v n e f here s1 a s2 b) z q =
+      entered_exiting (ext w) p s k t i (ext inner) (ext left) (ext told) (ext v) n e f here (step_extended w t _ inner s1) (extended a (Exit n) refl) (step_extended left t _ told s2) (exits_extended told p s n told.moves v e z q b)
   extended (born w p s k o b u v e f t a) z q = born (ext w) p s k o b (ext u) (ext v) e f (step_extended w [] _ u t) (extended a z q)
+  extended (unfound w p s k t i u v e f here b a) z q = unfound (ext w) p s k t i (ext u) (ext v) e f here (step_extended w [] _ u b) (extended a z q)
   extended (fallen w p s k u v e f t a) z q = fallen (ext w) p s k (ext u) (ext v) e f (step_extended w [] _ u t) (extended a z q)

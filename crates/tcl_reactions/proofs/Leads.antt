@@ -9,7 +9,6 @@ use Rattle.tcl_core.specs.Trees.{Tree, Node, Event, Move, Grants, effect, grante
 use Rattle.tcl_core.specs.Trees.Grants.{Budget}
 use Rattle.tcl_core.specs.Trees.Move.{Come}
 use Rattle.tcl_core.specs.Programs.{Wrap, Prog, Table, closes}
-use Rattle.tcl_core.specs.Programs.Wrap.{Deeper, Framed}
 use Rattle.tcl_core.specs.Runs.{World, Ending, Step, carried}
 use Rattle.tcl_core.specs.Rules.{Derives, IsNoExit}
 use Rattle.tcl_core.specs.Execution.{event}
@@ -20,6 +19,7 @@ use Rattle.tcl_core.proofs.Unended.{NotCut}
 use Rattle.tcl_reactions.specs.Playing.{Fate, Player, IsEnd, last_end}
 use Rattle.tcl_reactions.specs.Playing.Fate.{Waits, Unfits, EndsAbove, Spends}
 use Rattle.tcl_reactions.proofs.Ways.{Calm, IsBudget, Rest, Way, ahead, ahead-append, allowed_budget, later, outcome_append, outs_outcome, then_way}
+use Rattle.tcl_core.proofs.TreeLaws.{any_close}
 
 ends_so : (r q : Reply) → r ≡ q → IsEnd (Replied q) → IsEnd (Replied r)
 ends_so r q e f = subst (λ l. IsEnd (Replied l)) (sym e) f
@@ -30,11 +30,13 @@ end_quits (Stop n m) f = tt
 end_quits (Exit n) f = tt
 end_quits (Cut c) f = tt
 
-pub end_carried : (h : Height) (p : Place) (down : Path) (r : Reply) → IsEnd (Replied r) → carried h p down r ≡ r
-end_carried h p down (Completed c) f = absurd f
-end_carried h p down (Stop n m) f = absurd f
-end_carried h p down (Exit n) f = refl
-end_carried h p down (Cut c) f = refl
+pub end_carried : (g : Option ℕ) (h : Height) (p : Place) (down : Path) (r : Reply) → IsEnd (Replied r) → carried g h p down r ≡ r
+end_carried g h p down (Completed c) f = absurd f
+end_carried g h p down (Stop n m) f = absurd f
+end_carried None h p down (Exit n) f = refl
+end_carried (Some g) h p down (Exit n) f = refl
+end_carried None h p down (Cut c) f = refl
+end_carried (Some g) h p down (Cut c) f = refl
 
 module _ {O : Type 0} where
   -- how many calls are ended once the playing is over, where j entries are in progress: the one that was open too, where one was
@@ -112,14 +114,12 @@ module _ {O : Type 0} where
   copies_plus zero b m = let e : 0 + b ≡ b = omega arith in ap (λ n. copies n m) e
   copies_plus (suc a) b m = let e : suc a + b ≡ suc (a + b) = omega arith in ap (λ n. copies n m) e ∙ ap (λ l. m ∷ l) (copies_plus a b m)
 
-  closes_granted : (p : Place) (b : Wrap O) (n : Option (Node O)) (gs : Grants) → gs ≡ granted p (closes b n) gs
-  closes_granted p Deeper n gs = refl
-  closes_granted p (Framed k back) None gs = refl
-  closes_granted p (Framed k back) (Some n) gs = refl
+  closes_granted : (p : Place) (b : Wrap O) (m n : Option (Node O)) (gs : Grants) → gs ≡ granted p (closes b m n) gs
+  closes_granted p b m n gs = any_close (λ x. gs ≡ granted p x gs) b m n refl refl (λ y. refl)
 
-  pub closing_step : (U : Tree O) (p : Place) (b : Wrap O) (ms : List (Move O)) (gs : Grants) (ρ : List (Event O)) →
-      Step (world U ms gs (event p (closes b (U p)) ∷ ρ)) p (closes b (U p)) (world (effect p (closes b (U p)) U) ms gs ρ)
-  closing_step U p b ms gs ρ = record { tape = refl; tree = refl; moves = sym (closes_silent p b (U p) ms); grants = closes_granted p b (U p) gs }
+  pub closing_step : (n : Option (Node O)) (U : Tree O) (p : Place) (b : Wrap O) (ms : List (Move O)) (gs : Grants) (ρ : List (Event O)) →
+      Step (world U ms gs (event p (closes b n (U p)) ∷ ρ)) p (closes b n (U p)) (world (effect p (closes b n (U p)) U) ms gs ρ)
+  closing_step n U p b ms gs ρ = record { tape = refl; tree = refl; moves = sym (closes_silent p b n (U p) ms); grants = closes_granted p b n (U p) gs }
 
 module _ {O I : Type 0} (prog : Table O I) where
   pub record Leads (T : Tree O) (o : Player O) (p : Place) (x : Prog O I) (j : ℕ) (τ : List (Event O)) (u : Player O) (E : Rest O → World O → Ending → Type 0) : Type 0 where

@@ -1,13 +1,13 @@
 -- What comes with one outside comes with another one that goes along with it.
-use Rattle.std.proofs.Common.{◌≡◌, ap}
+use Rattle.std.proofs.Common.{ap}
 use Rattle.tcl_core.specs.Endings.{Reply}
 use Rattle.tcl_core.specs.Lives.{Outcome}
 use Rattle.tcl_core.specs.Paths.{Place}
 use Rattle.tcl_core.specs.Programs.{Prog, Table, Wait}
 use Rattle.tcl_core.specs.Execution.{Crossings, Executes, hears}
-use Rattle.tcl_core.specs.Execution.Executes.{completed, exited, acted, refused, went, passed, wrapped, wrapped_passed, too_deep, shut, called, called_passed, unreached, called_out, answered, heard, answered_passed, entered, entered_exiting}
+use Rattle.tcl_core.specs.Execution.Executes.{completed, exited, acted, refused, went, passed, wrapped, wrapped_passed, too_deep, shut, called, called_passed, unreached, called_out, answered, heard, missed, answered_passed, entered, entered_exiting, unfound}
 use Rattle.tcl_core.specs.Trees.{Event, Tree, What}
-use Rattle.tcl_core.specs.Trees.What.{Charged, Refused, Dropped, Out, In, Done, Back}
+use Rattle.tcl_core.specs.Trees.What.{Charged, Refused, Dropped, Out, In, Done, Back, Unfound}
 use Rattle.std.specs.Prelude.{None}
 use Rattle.tcl_reactions.specs.Moving.{Lived}
 use Rattle.tcl_reactions.specs.Moving
@@ -31,9 +31,11 @@ module _ {O I S R : Type 0} (step : Tree O → S → Wait → Event O → S → 
   comes_along (called_out up s t) = called_out up (along _ _ _ _ _ s) (comes_along t)
   comes_along (answered up fit s t) = answered up fit (along _ _ _ _ _ s) (comes_along t)
   comes_along (heard up fit s t) = heard up fit (along _ _ _ _ _ s) (comes_along t)
+  comes_along (missed up fit s t) = missed up fit (along _ _ _ _ _ s) (comes_along t)
   comes_along (answered_passed q up fit s) = answered_passed q up fit (along _ _ _ _ _ s)
-  comes_along (entered t i up s1 run s2 stays rest) = entered t i up (along _ _ _ _ _ s1) (comes_along run) (along _ _ _ _ _ s2) stays (comes_along rest)
-  comes_along (entered_exiting t i up s1 run s2 s3) = entered_exiting t i up (along _ _ _ _ _ s1) (comes_along run) (along _ _ _ _ _ s2) (along _ _ _ _ _ s3)
+  comes_along (entered t i up here s1 run s2 stays rest) = entered t i up here (along _ _ _ _ _ s1) (comes_along run) (along _ _ _ _ _ s2) stays (comes_along rest)
+  comes_along (entered_exiting t i up here s1 run s2 s3) = entered_exiting t i up here (along _ _ _ _ _ s1) (comes_along run) (along _ _ _ _ _ s2) (along _ _ _ _ _ s3)
+  comes_along (unfound t i up nobody s rest) = unfound t i up nobody (along _ _ _ _ _ s) (comes_along rest)
 
 -- and so it is of what an outside is told of
 module _ {O S R : Type 0} (step : Tree O → S → Wait → Event O → S → Type 0) (goes : Tree O → R → Wait → Event O → R → Type 0) (f : S → R)
@@ -46,6 +48,7 @@ module _ {O S R : Type 0} (step : Tree O → S → Wait → Event O → S → Ty
   hears_along T o s p Charged u t = along _ _ _ _ _ t
   hears_along T o s p (Refused m None) u t = along _ _ _ _ _ t
   hears_along T o s p Dropped u t = along _ _ _ _ _ t
+  hears_along T o s p (Unfound q i c) u t = along _ _ _ _ _ t
   hears_along T o s p x u t = ap f t
 
   pub crosses_along : (T : Tree O) (o : S) (s : Wait) (ev : Event O) (u : S) → Crossings step T o s ev u → Crossings goes T (f o) s ev (f u)
@@ -53,4 +56,5 @@ module _ {O S R : Type 0} (step : Tree O → S → Wait → Event O → S → Ty
 
   pub lives_along : {I : Type 0} (prog : Table O I) {T : Tree O} {o : S} {V : Tree O} {z : S} {x : Outcome} → Lived step prog T o V z x → Lived goes prog T (f o) V (f z) x
   lives_along prog Moving.Lived.begun = Moving.Lived.begun
-  lives_along prog (Moving.Lived.entered t i r l s1 run s2) = Moving.Lived.entered t i r (lives_along prog l) (along _ _ _ _ _ s1) (comes_along (Crossings step) (Crossings goes) f crosses_along prog run) (along _ _ _ _ _ s2)
+  lives_along prog (Moving.Lived.entered t i r l here s1 run s2) = Moving.Lived.entered t i r (lives_along prog l) here (along _ _ _ _ _ s1) (comes_along (Crossings step) (Crossings goes) f crosses_along prog run) (along _ _ _ _ _ s2)
+  lives_along prog (Moving.Lived.unfound t i l nobody s) = Moving.Lived.unfound t i (lives_along prog l) nobody (along _ _ _ _ _ s)

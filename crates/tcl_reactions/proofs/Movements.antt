@@ -1,20 +1,19 @@
 -- The life of a tree to which an outside hands in entries, with a budget, is what the tree does by itself with its moves.
-use Rattle.std.proofs.Common.{sym, ◌≡◌, ℕ, suc, ◌+◌, ◌≤◌, List, [], ◌∷◌, ◌++◌, Option, Some, None, refl, ◌∙◌, ap, subst, arith, append-nil, append_assoc}
+use Rattle.std.proofs.Common.{sym, ◌≡◌, ℕ, suc, ◌+◌, List, [], ◌∷◌, ◌++◌, Option, Some, None, refl, ◌∙◌, ap, subst, arith, append-nil, append_assoc}
 use Rattle.tcl_core.specs.Paths.{Path, Place}
 use Rattle.tcl_core.specs.Endings.{Reply}
 use Rattle.tcl_core.specs.Endings.Reply.{Completed, Stop, Exit, Cut}
 use Rattle.tcl_core.specs.Entries.{Entry}
-use Rattle.tcl_core.specs.Trees.{Tree, Event, Move, What, asked, effect, paid}
-use Rattle.tcl_core.specs.Trees.What.{Charged, In, Done}
+use Rattle.tcl_core.specs.Trees.{Tree, Node, Event, What, asked, effect, paid}
+use Rattle.tcl_core.specs.Trees.What.{Charged, In, Done, Unfound}
 use Rattle.tcl_core.specs.Programs.{Prog, Table, Wait}
 use Rattle.tcl_core.specs.Rules.{IsNoExit}
-use Rattle.tcl_core.specs.Runs.{entering}
 use Rattle.tcl_core.specs.Views.{moves_of, steps_of}
 use Rattle.tcl_core.specs.Execution.{Chain, Crossings, Executes, Open, answers_to, calls_after, event, more, none}
 use Rattle.tcl_core.specs.Lives.{Outcome, React, ending_of, outcome_of, outs_of, told}
 use Rattle.tcl_core.specs.Lives.Outcome.{Finished, Waiting, Exited, Ended, Spent, Misfit}
 use Rattle.tcl_core.proofs.Beginnings.{outs_append}
-use Rattle.tcl_core.proofs.Callers.{entering_calls, fit}
+use Rattle.tcl_core.proofs.Callers.{fit}
 use Rattle.tcl_core.proofs.Following.{called_on, chain-append, handed, handed-all, makes}
 use Rattle.tcl_reactions.specs.Moving
 use Rattle.tcl_reactions.specs.Moving.{Budgeted, Halt, IsWhole, Moved, beginning, budget_of, budgeted, as_outcome, result_by}
@@ -22,10 +21,10 @@ use Rattle.tcl_reactions.specs.Moving.Halt.{Cuts, Spends, Refuses}
 use Rattle.tcl_reactions.specs.Playing as playing
 use Rattle.tcl_reactions.specs.Playing.{EndsThere, IsOver, OverBy, Player, beginner, last_end, outcome, outcome_by, outcome_with, plays, telling, tree_left, left_by}
 use Rattle.tcl_reactions.proofs.Along.{along, then_both}
-use Rattle.tcl_reactions.proofs.Backwards.{Both, Calmly, Leads, Marks, None_left, After, Ready, both, calm_after, changed, comes_in, counts, fate_by, is_done, passes_by, player, stands}
+use Rattle.tcl_reactions.proofs.Backwards.{Both, Calmly, Leads, Marks, None_left, After, Ready, both, calm_after, changed, comes_in, counts, fate_by, finds_nobody, is_done, passes_by, player, stands}
 use Rattle.tcl_reactions.proofs.Mapped.{comes_along}
 use Rattle.tcl_reactions.proofs.Reacted.{played_is_react}
-use Rattle.tcl_reactions.proofs.Turns.{done_end, done_on, done_over, not_some}
+use Rattle.tcl_reactions.proofs.Turns.{done_end, done_on, done_over, not_some, unfound_end}
 use Rattle.tcl_reactions.proofs.Ways.{Calm}
 
 -- ## What the outside goes through
@@ -77,7 +76,7 @@ module _ {O S : Type 0} (goes : Tree O → S → Wait → Event O → S → Type
   }
   until {cs} {ds} {T} {V} {y} {z} (more {u = u} {ev = ev} g rest) = by g.marks (until rest) (λ h off. quiet rest h off)
     where
-      by : Marks goes T (answers_to ev.place ev.what cs) ev y u → Until (calls_after ev.place ev.what cs) (effect ev.place ev.what T) u ds V z → ((h : Halt) → u.0.halt ≡ Some h → Quiet u z) → Until cs T y ds V z
+      by : Marks goes T (answers_to ev.place ev.what cs) ev y u → Until (calls_after T ev.place ev.what cs) (effect ev.place ev.what T) u ds V z → ((h : Halt) → u.0.halt ≡ Some h → Quiet u z) → Until cs T y ds V z
       by (counts on t m k o) r over =
           record {
             tape = ev ∷ r.tape;
@@ -130,24 +129,37 @@ module _ {O I S : Type 0} (goes : Tree O → S → Wait → Event O → S → Ty
       by None e = done_end t r o z (done_on V t r o z s e)
       by (Some f) e = not_some z.fate f n (ap (λ w. w.fate) (done_over V t r f o z s e) ∙ e)
 
-  one_more : {T U V : Tree O} {y u w v z : Both goes} (t : Path) (e : Entry) (r : Reply) → Lasts T y U u Finished → both goes U u None (event t (In None e)) w →
-      Executes (both goes) prog U w t (entering prog (U t) e) V v r → both goes V v None (event t (Done None r)) z → Lasts T y V z (ending_of r)
-  one_more {T} {U} {V} {y} {u} {w} {v} {z} t e r l s1 run s2 =
-      let x : Prog O I = entering prog (U t) e in
-      let made = makes (both goes) prog (fit x (entering_calls prog (U t) e)) run in
+  one_more : {T U V : Tree O} {y u w v z : Both goes} {node : Node O} (t : Path) (e : Entry) (r : Reply) → Lasts T y U u Finished → U t ≡ Some node → both goes U u None (event t (In None e)) w →
+      Executes (both goes) prog U w t (prog.entry e) V v r → both goes V v None (event t (Done None r)) z → Lasts T y V z (ending_of r)
+  one_more {T} {U} {V} {y} {u} {w} {v} {z} t e r l here s1 run s2 =
+      let x : Prog O I = prog.entry e in
+      let made = makes (both goes) prog (fit x (prog.entries_call e)) run in
       let into : playing.HandsIn u.1 t e w.1 = s1.along.told in
       record {
-        lived = playing.Lived.entered t e r l.lived into.0 (l.ends into.0) s1.along.told (alone_too run) s2.along.told;
+        lived = playing.Lived.entered t e r l.lived into.0 (l.ends into.0) here s1.along.told (alone_too run) s2.along.told;
         events = l.events ++ event t (In None e) ∷ (made.events ++ event t (Done None r) ∷ []);
-        chain = chain-append (both goes) l.chain (more s1 (chain-append (both goes) (called_on (both goes) x (entering_calls prog (U t) e) made.chain) (more s2 none)));
+        chain = chain-append (both goes) l.chain (more s1 (chain-append (both goes) (called_on (both goes) x (prog.entries_call e) made.chain) (more s2 none)));
         ends = ends_so V t r v.1 z.1 s2.along;
+      }
+
+  -- or one more that finds nobody
+  one_unfound : {T U : Tree O} {y u z : Both goes} (t : Path) (e : Entry) → Lasts T y U u Finished → U t ≡ None → both goes U u None (event [] (Unfound t e (prog.lost t))) z → Lasts T y U z Finished
+  one_unfound {T} {U} {y} {u} {z} t e l nobody s =
+      let found : playing.FindsNobody u.1 t e (prog.lost t) z.1 = s.along.told in
+      record {
+        lived = playing.Lived.unfound t e l.lived found.1.0 (l.ends found.1.0) nobody s.along.told;
+        events = l.events ++ event [] (Unfound t e (prog.lost t)) ∷ [];
+        chain = chain-append (both goes) l.chain (more s none);
+        ends = λ n. unfound_end t e (prog.lost t) u.1 z.1 found;
       }
 
   lives : {T : Tree O} {b : Budgeted S} {V : Tree O} {c : Budgeted S} {x : Outcome} → Moving.Lived (budgeted goes) prog T b V c x → Leads goes b c (Calmly b.halt) (λ y z. last_end y.1 ≡ Finished → Lasts T y V z x) (λ outs. Calm x → Calmly c.halt outs)
   lives {T} {b = b} Moving.Lived.begun = stands goes b (Calmly b.halt) (λ outs. Calm Finished → Calmly b.halt outs) (λ y z. last_end y.1 ≡ Finished → Lasts T y T z Finished) (λ y e. record { lived = playing.Lived.begun; events = []; chain = none; ends = λ f. e }) (λ outs a k. a)
-  lives {T} {b = b} (Moving.Lived.entered {U} {V} {u} {w} {v} {z} t i r l s1 run s2) =
+  lives {T} {b = b} (Moving.Lived.entered {U} {V} {u} {w} {v} {z} t i r l here s1 run s2) =
       changed goes (then_both goes (lives l) (λ outs g. g tt) (then_both goes (comes_in goes U u t i w (record { told = s1 })) (λ outs g. g) (then_both goes (along goes prog run) (λ outs g. tt) (is_done goes V v t r z (record { told = s2 })))))
-      (λ y q m e. one_more t i r (m.1 e) m.2.1 m.2.2.1 m.2.2.2) (λ outs g k. calm_after r (no_exit r k) z.halt outs g)
+      (λ y q m e. one_more t i r (m.1 e) here m.2.1 m.2.2.1 m.2.2.2) (λ outs g k. calm_after r (no_exit r k) z.halt outs g)
+  lives {T} {b = b} (Moving.Lived.unfound {U} {u} {z} t i l nobody s) =
+      changed goes (then_both goes (lives l) (λ outs g. g tt) (finds_nobody goes U u t i (prog.lost t) z (record { told = s }))) (λ y q m e. one_unfound t i (m.1 e) nobody m.2) (λ outs g k. calm_after (Completed (prog.lost t)) tt z.halt outs g)
 
 -- ## All of it
 
@@ -171,7 +183,8 @@ module _ {O I S : Type 0} (goes : Tree O → S → Wait → Event O → S → Ty
 
   outcome_kept : {T V : Tree O} {b c : Budgeted S} {x : Outcome} → Moving.Lived (budgeted goes) prog T b V c x → outcome_with {O = O} x [] ≡ x
   outcome_kept Moving.Lived.begun = refl
-  outcome_kept (Moving.Lived.entered t i r l s1 run s2) = ending_kept r
+  outcome_kept (Moving.Lived.entered t i r l here s1 run s2) = ending_kept r
+  outcome_kept (Moving.Lived.unfound t i l nobody s) = refl
 
   module _ (T V : Tree O) (o : S) (limit : ℕ) (c : Budgeted S) (x : Outcome) (life : Moving.Lived (budgeted goes) prog T (beginning o limit) V c x) where
     -- with which steps the player ends, which of its budget it doesn't need, and by what its playing is over

@@ -5,10 +5,10 @@ use Rattle.tcl_core.specs.Endings.{Cause}
 use Rattle.tcl_core.specs.Endings.{Reply}
 use Rattle.tcl_core.specs.Endings.Reply.{Completed, Stop, Exit, Cut}
 use Rattle.tcl_core.specs.Endings.Cause.{Above, Over}
-use Rattle.tcl_core.specs.Entries.Answer.{Replied, Heard}
+use Rattle.tcl_core.specs.Entries.Answer.{Replied, Heard, Nobody}
 use Rattle.tcl_core.specs.Trees.{Tree, What, Event, Move}
 use Rattle.tcl_core.specs.Trees.Grants.{Budget}
-use Rattle.tcl_core.specs.Trees.What.{Done}
+use Rattle.tcl_core.specs.Trees.What.{Done, Unfound}
 use Rattle.tcl_core.specs.Trees.Move.{Born, Fall, Enter, Come}
 use Rattle.tcl_core.specs.Programs.{Table}
 use Rattle.tcl_core.specs.Programs.Prog.{wait}
@@ -78,6 +78,7 @@ module _ {O : Type 0} where
 
       at : (p : Place) (w : What O) → StopsByItself (outcome_at p w x)
       at p (Done h r) = last (rise_to h p) r
+      at p (Unfound t i c) = tt
       at p w = f
 
   as_many : (τ σ : List (Event O)) (j k : ℕ) → τ ≡ σ → InProgress (suc j) τ → InProgress (suc k) σ → j ≡ k
@@ -276,6 +277,7 @@ module _ {O I : Type 0} (prog : Table O I) (S : Tree O) (n : ℕ) where
         later (Come (Replied (Stop i j))) k g = g
         later (Come (Replied (Exit i))) k g = g
         later (Come (Heard d)) k g = g
+        later (Come Nobody) k g = g
         later (Enter d i) k g = g
         later (Born o b) k g = g
         later Fall k g = g

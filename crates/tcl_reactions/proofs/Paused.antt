@@ -1,23 +1,26 @@
 -- A run up to where control next comes in from outside: it is one with the moves until then alone, and under each budget of the steps
 -- until then, or more.
+use Rattle.tcl_core.proofs.TreeLaws.{reached_stands}
 use Rattle.std.proofs.Common.{sym, ◌≡◌, ◌⊎◌, inl, inr, ℕ, ℤ, ◌+◌, Bool, true, false, List, [], ◌∷◌, ◌++◌, Some, None, length, refl, ◌∙◌, ap, subst}
 use Rattle.tcl_core.specs.Paths.{Path, Place, Height, rise_to}
 use Rattle.tcl_core.specs.Endings.{Completion, Reply, Cause, IsQuit, refusal}
 use Rattle.tcl_core.specs.Endings.Meter.{Depth}
+use Rattle.tcl_core.specs.Endings.Kind.{Full}
 use Rattle.tcl_core.specs.Endings.Reply.{Completed, Stop, Exit, Cut}
 use Rattle.tcl_core.specs.Entries.{Entry, Answer, Said}
-use Rattle.tcl_core.specs.Entries.Answer.{Replied, Heard}
-use Rattle.tcl_core.specs.Entries.Said.{Finished, Told}
-use Rattle.tcl_core.specs.Trees.{Tree, What, Event, Move, at, granted}
+use Rattle.tcl_core.specs.Entries.Answer.{Replied, Heard, Nobody}
+use Rattle.tcl_core.specs.Entries.Said.{Finished, Told, Missed}
+use Rattle.tcl_core.specs.Trees.{Tree, What, Event, Move, at, depth_of, granted, Node}
 use Rattle.tcl_core.specs.Trees.Grants.{Listed}
 use Rattle.tcl_core.specs.Trees.Move.{Born, Fall, Enter, Come}
-use Rattle.tcl_core.specs.Trees.What.{Made, Dropped, Out, In, Done, Back}
-use Rattle.tcl_core.specs.Programs.{Deed, spot, Next, Wrap, Wait, Prog, Table, opens, closes}
+use Rattle.tcl_core.specs.Trees.What.{Made, Dropped, Out, In, Done, Back, Unfound}
+use Rattle.tcl_core.specs.Programs.{Deed, spot, Next, Wrap, Wait, Prog, Table, opens, closes, or_lost}
 use Rattle.tcl_core.specs.Programs.Next.{On, Off}
 use Rattle.tcl_core.specs.Programs.Prog.{done, exit, act, go, inside, call, wait}
-use Rattle.tcl_core.specs.Runs.{World, Step, Ending, Halts, Exits, Exiting, Follows, Hears, Leaves, Visits, Returns, Reaches, Closes, Opened, Stays, carried, reached, entering, ends_call, height_of}
+use Rattle.tcl_core.specs.Runs
+use Rattle.tcl_core.specs.Runs.{World, Step, Ending, Halts, Exits, Exiting, Follows, Hears, Leaves, Visits, Returns, Reaches, Closes, Opened, Stays, returned, reached, ends_call, height_of}
 use Rattle.tcl_core.specs.Rules.{Derives, IsNoExit}
-use Rattle.tcl_core.specs.Rules.Derives.{completed, exited, acted, refused, unheard, went, passed, halted, wrapped, wrapped_passed, wrapped_halted, too_deep, shut, unheard_inside, called, called_passed, called_halted, unreached, called_out, unanswered, unfit, answered, heard, answered_passed, entered, entered_halted, entered_exiting, born, fallen}
+use Rattle.tcl_core.specs.Rules.Derives.{completed, exited, acted, refused, unheard, went, passed, halted, wrapped, wrapped_passed, wrapped_halted, too_deep, shut, unheard_inside, called, called_passed, called_halted, unreached, called_out, unanswered, unfit, answered, heard, missed, answered_passed, entered, entered_halted, entered_exiting, born, fallen, unfound}
 use Rattle.tcl_core.specs.Rules.{IsOn}
 use Rattle.tcl_core.specs.Execution.{event}
 use Rattle.tcl_core.specs.Laws.{IsUnended, ReadsMove, Unended, after}
@@ -28,7 +31,7 @@ use Rattle.tcl_core.proofs.Halts.{halted_tape}
 use Rattle.tcl_core.proofs.LifeMoves.{not_cons}
 use Rattle.tcl_core.proofs.Parting.{Silent, act_silent, opens_silent, closes_silent, in_silent, back_silent, back_reads}
 use Rattle.tcl_core.proofs.PathLaws.{Some-inj}
-use Rattle.tcl_core.proofs.Refusals.{cut_or}
+use Rattle.tcl_core.proofs.Refusals.{carried_is, cut_or}
 use Rattle.tcl_core.proofs.RuleLaws.{Ruled, open_rule, reach_rule, enter_rule}
 use Rattle.tcl_core.proofs.Unended.{IsNoCut, decide_uncut, on_no_cut, opens_uncut}
 
@@ -40,13 +43,13 @@ completed_not_cut c x e = absurd (bad (Some-inj (Completed c) e))
     bad : Completed c ≡ Cut x → Prim.⊥
     bad f = cc
 
-carried_not_cut : {A : Type 0} (h : Height) (p : Place) (down : Path) (r : Reply) (c : Completion) (x : Cause) → carried h p down r ≡ Completed c → Some r ≡ Some (Cut x) → A
-carried_not_cut h p down r c x e f =
-    let g : Completed c ≡ Cut x = sym e ∙ ap (carried h p down) (Some-inj r f) in
-    completed_not_cut c x (ap Some g)
+returned_cut : {O : Type 0} (T U : Tree O) (h : Height) (p : Place) (down : Path) (r : Reply) (x : Cause) → Some r ≡ Some (Cut x) → returned T U h p down r ≡ Cut x
+returned_cut T U h p down r x f = carried_is (Runs.gone (depth_of (T p)) U p) h p down r x (Some-inj r f)
 
-carried_cut : (h : Height) (p : Place) (down : Path) (r : Reply) (x : Cause) → Some r ≡ Some (Cut x) → Some (carried h p down r) ≡ Some (Cut x)
-carried_cut h p down r x f = ap (λ y. Some (carried h p down y)) (Some-inj r f)
+returned_not_cut : {O : Type 0} {A : Type 0} (T U : Tree O) (h : Height) (p : Place) (down : Path) (r : Reply) (c : Completion) (x : Cause) → returned T U h p down r ≡ Completed c → Some r ≡ Some (Cut x) → A
+returned_not_cut T U h p down r c x e f =
+    let g : Completed c ≡ Cut x = sym e ∙ returned_cut T U h p down r x f in
+    completed_not_cut c x (ap Some g)
 
 off_cut : (r : Reply) (n : Next) (c : Cause) → n ≡ Off r → n ≡ Off (Cut c) → Some r ≡ Some (Cut c)
 off_cut r n c e f = let g : Off r ≡ Off (Cut c) = sym e ∙ f in cc
@@ -203,7 +206,7 @@ module _ {O I : Type 0} (prog : Table O I) (k : ℕ) (next : Event O) (late : Li
   Visit_of T h t i a z o = Visits prog (Ruled prog) (given T a) h t i z o
 
   abbrev Left_of : World O → World O → Height → Place → Entry → List (Event O) → World O → Ending → Type 0
-  Left_of w inner h t i a z o = (y : World O) × Derives prog (given inner.tree a) t (entering prog (w.tree t) i) y o × Leaves y h t o z
+  Left_of w inner h t i a z o = (y : World O) × Derives prog (given inner.tree a) t (prog.entry i) y o × Leaves y h t o z
 
   abbrev Told_of : World O → Height → Place → Reply → List (Event O) → World O → Ending → Type 0
   Told_of left h t r a z o = (o ≡ Some r) × Step (given left.tree a) t (Done h r) z
@@ -213,16 +216,16 @@ module _ {O I : Type 0} (prog : Table O I) (k : ℕ) (next : Event O) (late : Li
       silent k next late reads (Unended {O = O} t (Done h r)) left told told t (Done h r) (Ends_so r told) (Told_of left h t r) (Some r) a s (λ ms. refl) q n
       (λ a1 z o st d. (d.0, subst (λ y. Step (given left.tree (event t (Done h r) ∷ a1)) t (Done h r) y) (sym d.1) st)) (λ a1 q1 n1. ended (Unended {O = O} t (Done h r)) told r a1 q1 n1)
 
-  visited : (w inner left told : World O) (h : Height) (t : Place) (i : Entry) (r : Reply) (a : List (Event O)) → Step w t (In h i) inner → Meets w a → IsUnended a →
+  visited : (w inner left told : World O) (h : Height) (t : Place) (i : Entry) (r : Reply) (a : List (Event O)) {node : Node O} → w.tree t ≡ Some node → Step w t (In h i) inner → Meets w a → IsUnended a →
       (a ≡ [] → next ∷ late ≡ event t (In h i) ∷ inner.tape → Of (Unended {O = O} t (Done h r)) w told (Visit_of w.tree h t i []) (Some r) []) →
-      Goes inner t (entering prog (w.tree t) i) left (Some r) → Step left t (Done h r) told → Of (Unended {O = O} t (Done h r)) w told (Visit_of w.tree h t i a) (Some r) a
-  visited w inner left told h t i r a s1 q n none sub s2 =
+      Goes inner t (prog.entry i) left (Some r) → Step left t (Done h r) told → Of (Unended {O = O} t (Done h r)) w told (Visit_of w.tree h t i a) (Some r) a
+  visited w inner left told h t i r a here s1 q n none sub s2 =
       taken k next late (Unended {O = O} t (Done h r)) w inner told t (In h i) (Left_of w inner h t i) (Visit_of w.tree h t i) (Some r) a s1 q n none
-      (λ a1 z o st d. record { entered = given inner.tree a1; left = d.0; entry = st; run = d.1; leaving = d.2 })
-      (λ a1 q1 n1. joined k next late (Unit {0}) (Unended {O = O} t (Done h r)) inner left told (Run_of inner.tree t (entering prog (w.tree t) i) a1) (Told_of left h t r) (Left_of w inner h t i a1) (Some r) (Some r) a1 (sub a1 q1 n1)
+      (λ a1 z o st d. record { node = _; stands = here; entered = given inner.tree a1; left = d.0; entry = st; run = d.1; leaving = d.2 })
+      (λ a1 q1 n1. joined k next late (Unit {0}) (Unended {O = O} t (Done h r)) inner left told (Run_of inner.tree t (prog.entry i) a1) (Told_of left h t r) (Left_of w inner h t i a1) (Some r) (Some r) a1 (sub a1 q1 n1)
       (λ z d. (z, d, refl))
       (λ c a2 q2 n2 e u. let g = peeled k next late reads left t (Done h r) told a2 s2 (λ ms. refl) q2 n2 in gone c g.0 g.1 g.3 e g.2)
-      (λ a2 z o d e. (given left.tree a2, subst (λ y. Derives prog (given inner.tree a1) t (entering prog (w.tree t) i) (given left.tree a2) y) (sym e.0) d, subst (λ y. Leaves (given left.tree a2) h t y z) (sym e.0) e.1))
+      (λ a2 z o d e. (given left.tree a2, subst (λ y. Derives prog (given inner.tree a1) t (prog.entry i) (given left.tree a2) y) (sym e.0) d, subst (λ y. Leaves (given left.tree a2) h t y z) (sym e.0) e.1))
       (λ a2 q2 n2. told_so left told h t r a2 s2 q2 n2))
 
   -- after an entry that ended by an exit
@@ -273,21 +276,21 @@ module _ {O I : Type 0} (prog : Table O I) (k : ℕ) (next : Event O) (late : Li
       ((a1 : List (Event O)) → Meets u a1 → IsUnended a1 → Of (Unit {0}) u v (D a1) e a1) → Paused w p (wait s y) v e a
   comes w u v p t x s y D e a f st q n build rec = taken k next late (Unit {0}) w u v t x D (Run_of w.tree p (wait s y)) e a st q n (λ g h. stops_here w v p s y e f) build rec
 
-  enters : (w inner left told v : World O) (p : Place) (s : Wait) (y : Said → Prog O I) (t : Path) (i : Entry) (r : Reply) (e : Ending) (F : List (Event O) → World O → Ending → Type 0) → rise_to (height_of s) p ≡ None → Step w t (In None i) inner →
-      Goes inner t (entering prog (w.tree t) i) left (Some r) → Step left t (Done None r) told →
+  enters : (w inner left told v : World O) (p : Place) (s : Wait) (y : Said → Prog O I) (t : Path) (i : Entry) (r : Reply) (e : Ending) (F : List (Event O) → World O → Ending → Type 0) {node : Node O} → rise_to (height_of s) p ≡ None → w.tree t ≡ Some node → Step w t (In None i) inner →
+      Goes inner t (prog.entry i) left (Some r) → Step left t (Done None r) told →
       ((a1 : List (Event O)) (z : World O) (o : Ending) → F a1 z o → Stays (Ruled prog) (given told.tree a1) p s y (Some r) z o) →
       ((a1 : List (Event O)) → Meets told a1 → IsUnended a1 → Of (Unit {0}) told v (F a1) e a1) → Goes w p (wait s y) v e
-  enters w inner left told v p s y t i r e F f s1 sub s2 stay rest [] q n = stops_here w v p s y e f
-  enters w inner left told v p s y t i r e F f s1 sub s2 stay rest (ev ∷ a) q n =
+  enters w inner left told v p s y t i r e F f here s1 sub s2 stay rest [] q n = stops_here w v p s y e f
+  enters w inner left told v p s y t i r e F f here s1 sub s2 stay rest (ev ∷ a) q n =
       joined k next late (Unended {O = O} t (Done None r)) (Unit {0}) w told v (Visit_of w.tree None t i (ev ∷ a)) F (Run_of w.tree p (wait s y) (ev ∷ a)) (Some r) e (ev ∷ a)
-      (visited w inner left told None t i r (ev ∷ a) s1 q n (λ g h. not_cons ev a (sym g)) sub s2)
+      (visited w inner left told None t i r (ev ∷ a) here s1 q n (λ g h. not_cons ev a (sym g)) sub s2)
       (λ z d. enter_rule prog (given w.tree (ev ∷ a)) p s y t i z None z None f d (refl, refl))
       (λ c a1 q1 n1 g u. done_not_cut O t r c u g)
       (λ a1 z o d1 d2. enter_rule prog (given w.tree (ev ∷ a)) p s y t i (given told.tree a1) (Some r) z o f d1 (stay a1 z o d2)) rest
 
   -- an inner evaluation in a wrap, between what that does and undoes
   enclosed : (w inner left closed v : World O) (p : Place) (l : Wrap O) (i : I) (y : Completion → Prog O I) (x : Deed O) (r : Reply) (e : Ending) (F : List (Event O) → World O → Ending → Type 0) → opens l w.tree p w.grants ≡ Some x → x.2 ≡ On → Step w (spot p x.0) x.1 inner →
-      Goes inner p (prog.program i) left (Some r) → Step left p (closes l (left.tree p)) closed →
+      Goes inner p (prog.program i) left (Some r) → Step left p (closes l (inner.tree p) (left.tree p)) closed →
       ((c : Cause) → Some r ≡ Some (Cut c) → (v.tape ≡ closed.tape) × (e ≡ Some (Cut c))) →
       ((a : List (Event O)) (z : World O) (o : Ending) → F a z o → Follows (Ruled prog) (given closed.tree a) p y r z o) →
       ((a : List (Event O)) → Meets closed a → IsUnended a → Of (Unit {0}) closed v (F a) e a) → Goes w p (inside l i y) v e
@@ -295,28 +298,28 @@ module _ {O I : Type 0} (prog : Table O I) (k : ℕ) (next : Event O) (late : Li
       silent k next late reads (Unit {0}) w inner v (spot p x.0) x.1 (λ a1 z o. Opened prog (Ruled prog) (given inner.tree a1) p l i y On z o) (Run_of w.tree p (inside l i y)) e a s (opens_silent l w.tree p w.grants x g) q n
       (λ a1 z o st d. open_rule prog (given w.tree (event (spot p x.0) x.1 ∷ a1)) p l i y (Some x) z o (opens_budget l w.tree p w.grants x (steps_of a1) k g (opens_uncut l w.tree p w.grants x g (on_no_cut x.2 (subst IsOn (sym on) tt))))
       (given inner.tree a1, st, subst (λ j. Opened prog (Ruled prog) (given inner.tree a1) p l i y j z o) (sym on) d))
-      (λ a1 q1 n1. joined k next late (Unit {0}) (Unit {0}) inner left v (Run_of inner.tree p (prog.program i) a1) (λ a2 z o. Closes (Ruled prog) (given left.tree a2) p l y (Some r) z o) (λ z o. Opened prog (Ruled prog) (given inner.tree a1) p l i y On z o) (Some r) e a1 (sub a1 q1 n1)
+      (λ a1 q1 n1. joined k next late (Unit {0}) (Unit {0}) inner left v (Run_of inner.tree p (prog.program i) a1) (λ a2 z o. Closes (Ruled prog) (inner.tree p) (given left.tree a2) p l y (Some r) z o) (λ z o. Opened prog (Ruled prog) (given inner.tree a1) p l i y On z o) (Some r) e a1 (sub a1 q1 n1)
       (λ z d. (z, None, d, (refl, refl)))
-      (λ c a2 q2 n2 f h. let j = peeled k next late reads left p (closes l (left.tree p)) closed a2 t (closes_silent p l (left.tree p)) q2 n2 in gone c j.0 ((ends c f).0 ∙ j.1) j.3 (ends c f).1 tt)
+      (λ c a2 q2 n2 f h. let j = peeled k next late reads left p (closes l (inner.tree p) (left.tree p)) closed a2 t (closes_silent p l (inner.tree p) (left.tree p)) q2 n2 in gone c j.0 ((ends c f).0 ∙ j.1) j.3 (ends c f).1 tt)
       (λ a2 z o d1 d2. (given left.tree a2, Some r, d1, d2))
-      (λ a2 q2 n2. silent k next late reads (Unit {0}) left closed v p (closes l (left.tree p)) F (λ a3 z o. Closes (Ruled prog) (given left.tree a3) p l y (Some r) z o) e a2 t (closes_silent p l (left.tree p)) q2 n2
+      (λ a2 q2 n2. silent k next late reads (Unit {0}) left closed v p (closes l (inner.tree p) (left.tree p)) F (λ a3 z o. Closes (Ruled prog) (inner.tree p) (given left.tree a3) p l y (Some r) z o) e a2 t (closes_silent p l (inner.tree p) (left.tree p)) q2 n2
       (λ a3 z o st d. (given closed.tree a3, st, follows a3 z o d)) rest))
 
   -- a call within the tree
   inward : (w out inner left told back v : World O) (p a0 t : Place) (h : Height) (down : Path) (i : Entry) (lost : Completion) (y : Said → Prog O I) (r : Reply) (e : Ending) (F : List (Event O) → World O → Ending → Type 0) → rise_to h p ≡ Some a0 → Step w p (Out h down i) out →
-      reached out.tree a0 down ≡ Some t → Step out t (In (Some (length down)) i) inner → Goes inner t (entering prog (out.tree t) i) left (Some r) → Step left t (Done (Some (length down)) r) told → Step told p (Back h (Replied (carried h p down r))) back →
+      reached out.tree a0 down ≡ Some t → Step out t (In (Some (length down)) i) inner → Goes inner t (prog.entry i) left (Some r) → Step left t (Done (Some (length down)) r) told → Step told p (Back h (Replied (returned out.tree told.tree h p down r))) back →
       ((c : Cause) → Some r ≡ Some (Cut c) → (v.tape ≡ back.tape) × (e ≡ Some (Cut c))) →
-      ((a : List (Event O)) (z : World O) (o : Ending) → F a z o → Hears (Ruled prog) (given back.tree a) p y (Replied (carried h p down r)) z o) →
+      ((a : List (Event O)) (z : World O) (o : Ending) → F a z o → Hears (Ruled prog) (given back.tree a) p y (Replied (returned out.tree told.tree h p down r)) z o) →
       ((a : List (Event O)) → Meets back a → IsUnended a → Of (Unit {0}) back v (F a) e a) → Goes w p (call h down i lost y) v e
   inward w out inner left told back v p a0 t h down i lost y r e F f s1 g s2 sub s3 s4 ends hears rest a q n =
       silent k next late reads (Unit {0}) w out v p (Out h down i) (λ a1 z o. Reaches prog (Ruled prog) (given out.tree a1) p h down i lost y (Some t) z o) (Run_of w.tree p (call h down i lost y)) e a s1 (λ ms. refl) q n
       (λ a1 z o st d. reach_rule prog (given w.tree (event p (Out h down i) ∷ a1)) p h down i lost y (given out.tree a1) a0 (Some t) z o f g st d)
-      (λ a1 q1 n1. joined k next late (Unended {O = O} t (Done (Some (length down)) r)) (Unit {0}) out told v (Visit_of out.tree (Some (length down)) t i a1) (λ a2 z o. Returns (Ruled prog) (given told.tree a2) p h down y (Some r) z o) (λ z o. Reaches prog (Ruled prog) (given out.tree a1) p h down i lost y (Some t) z o) (Some r) e a1
-      (visited out inner left told (Some (length down)) t i r a1 s2 q1 n1 (λ _ j. not_next k next late reads t (In (Some (length down)) i) inner.tape (λ ms. sym (in_silent prog out a0 t down i g ms)) j) sub s3)
+      (λ a1 q1 n1. joined k next late (Unended {O = O} t (Done (Some (length down)) r)) (Unit {0}) out told v (Visit_of out.tree (Some (length down)) t i a1) (λ a2 z o. Returns (Ruled prog) (depth_of (out.tree p)) (given told.tree a2) p h down y (Some r) z o) (λ z o. Reaches prog (Ruled prog) (given out.tree a1) p h down i lost y (Some t) z o) (Some r) e a1
+      (visited out inner left told (Some (length down)) t i r a1 (reached_stands out.tree a0 down t g).1 s2 q1 n1 (λ _ j. not_next k next late reads t (In (Some (length down)) i) inner.tape (λ ms. sym (in_silent prog out a0 t down i g ms)) j) sub s3)
       (λ z d. (z, None, d, (refl, refl)))
-      (λ c a2 q2 n2 j u. let m = peeled k next late reads told p (Back h (Replied (carried h p down r))) back a2 s4 (back_silent prog p a0 h (Replied (carried h p down r)) f) q2 n2 in gone c m.0 ((ends c j).0 ∙ m.1) m.3 (ends c j).1 tt)
+      (λ c a2 q2 n2 j u. let m = peeled k next late reads told p (Back h (Replied (returned out.tree told.tree h p down r))) back a2 s4 (back_silent prog p a0 h (Replied (returned out.tree told.tree h p down r)) f) q2 n2 in gone c m.0 ((ends c j).0 ∙ m.1) m.3 (ends c j).1 tt)
       (λ a2 z o d1 d2. (given told.tree a2, Some r, d1, d2))
-      (λ a2 q2 n2. silent k next late reads (Unit {0}) told back v p (Back h (Replied (carried h p down r))) F (λ a3 z o. Returns (Ruled prog) (given told.tree a3) p h down y (Some r) z o) e a2 s4 (back_silent prog p a0 h (Replied (carried h p down r)) f) q2 n2
+      (λ a2 q2 n2. silent k next late reads (Unit {0}) told back v p (Back h (Replied (returned out.tree told.tree h p down r))) F (λ a3 z o. Returns (Ruled prog) (depth_of (out.tree p)) (given told.tree a3) p h down y (Some r) z o) e a2 s4 (back_silent prog p a0 h (Replied (returned out.tree told.tree h p down r)) f) q2 n2
       (λ a3 z o st d. (given back.tree a3, st, hears a3 z o d)) rest))
 
   pub paused : {w : World O} {p : Place} {x : Prog O I} {v : World O} {e : Ending} → Derives prog w p x v e → Goes w p x v e
@@ -347,31 +350,31 @@ module _ {O I : Type 0} (prog : Table O I) (k : ℕ) (next : Event O) (late : Li
       (wrapped_halted (given w.tree (event (spot p x.0) x.1 ∷ a1)) p l i y x (given inner.tree a1) z (opens_budget l w.tree p w.grants x (steps_of a1) k g (opens_uncut l w.tree p w.grants x g (on_no_cut x.2 (subst IsOn (sym on) tt)))) on st d.1))
       (λ a1 q1 n1. halts k next late (Unit {0}) (Unit {0}) inner left (Run_of inner.tree p (prog.program i) a1) (λ z o. (o ≡ None) × Derives prog (given inner.tree a1) p (prog.program i) z None) a1 (halted_tape prog r refl) (paused r a1 q1 n1) (λ z d. (refl, d)))
   paused (too_deep w p l i y x u v e g deep s r) a q n =
-      silent k next late reads (Unit {0}) w u v (spot p x.0) x.1 (Run_of u.tree p (y (refusal Depth))) (Run_of w.tree p (inside l i y)) e a s (opens_silent l w.tree p w.grants x g) q n
+      silent k next late reads (Unit {0}) w u v (spot p x.0) x.1 (Run_of u.tree p (y (refusal (Full Depth)))) (Run_of w.tree p (inside l i y)) e a s (opens_silent l w.tree p w.grants x g) q n
       (λ a1 z o st d. too_deep (given w.tree (event (spot p x.0) x.1 ∷ a1)) p l i y x (given u.tree a1) z o (opens_budget l w.tree p w.grants x (steps_of a1) k g (opens_uncut l w.tree p w.grants x g (on_no_cut x.2 (subst IsOn (sym deep) tt)))) deep st d)
       (λ a1 q1 n1. paused r a1 q1 n1)
   paused (shut w p l i y x r u g off s) a q n =
       offed w u p x r (Run_of w.tree p (inside l i y)) a s (opens_silent l w.tree p w.grants x g) off
       (λ c a1 z o st b. ends_so (given w.tree (event (spot p x.0) x.1 ∷ a1)) u z p (inside l i y) r a1 o (shut (given w.tree (event (spot p x.0) x.1 ∷ a1)) p l i y x r (given u.tree a1) (opens_budget l w.tree p w.grants x (steps_of a1) k g (opens_uncut l w.tree p w.grants x g c)) off st) b) q n
   paused (called w p h down i lost y a0 t out inner left told back v r c e f s1 g s2 x s3 so s4 z) a q n =
-      inward w out inner left told back v p a0 t h down i lost y r e (Run_of back.tree p (y (Finished c))) f s1 g s2 (λ a1 q1 n1. paused x a1 q1 n1) s3 s4 (λ c2 j. carried_not_cut h p down r c c2 so j)
+      inward w out inner left told back v p a0 t h down i lost y r e (Run_of back.tree p (y (Finished c))) f s1 g s2 (λ a1 q1 n1. paused x a1 q1 n1) s3 s4 (λ c2 j. returned_not_cut out.tree told.tree h p down r c c2 so j)
       (λ a1 z2 o d. subst (λ j. Hears (Ruled prog) (given back.tree a1) p y (Replied j) z2 o) (sym so) d) (λ a1 q1 n1. paused z a1 q1 n1) a q n
   paused (called_passed w p h down i lost y a0 t out inner left told back r f s1 g s2 x s3 j s4) a q n =
-      inward w out inner left told back back p a0 t h down i lost y r (Some (carried h p down r)) (Ends_so (carried h p down r) back) f s1 g s2 (λ a1 q1 n1. paused x a1 q1 n1) s3 s4 (λ c m. (refl, carried_cut h p down r c m))
-      (λ a1 z o d. hears_ruled (given back.tree a1) p y (carried h p down r) z o j d.1 d.0) (λ a1 q1 n1. ended (Unit {0}) back (carried h p down r) a1 q1 n1) a q n
+      inward w out inner left told back back p a0 t h down i lost y r (Some (returned out.tree told.tree h p down r)) (Ends_so (returned out.tree told.tree h p down r) back) f s1 g s2 (λ a1 q1 n1. paused x a1 q1 n1) s3 s4 (λ c m. (refl, ap Some (returned_cut out.tree told.tree h p down r c m)))
+      (λ a1 z o d. hears_ruled (given back.tree a1) p y (returned out.tree told.tree h p down r) z o j d.1 d.0) (λ a1 q1 n1. ended (Unit {0}) back (returned out.tree told.tree h p down r) a1 q1 n1) a q n
   paused (called_halted w p h down i lost y a0 t out inner left f s1 g s2 x) a q n =
       silent k next late reads (Unit {0}) w out left p (Out h down i) (λ a1 z o. Reaches prog (Ruled prog) (given out.tree a1) p h down i lost y (Some t) z o) (Run_of w.tree p (call h down i lost y)) None a s1 (λ ms. refl) q n
       (λ a1 z o st d. reach_rule prog (given w.tree (event p (Out h down i) ∷ a1)) p h down i lost y (given out.tree a1) a0 (Some t) z o f g st d)
-      (λ a1 q1 n1. silent k next late reads (Unit {0}) out inner left t (In (Some (length down)) i) (λ a2 z o. (o ≡ None) × Derives prog (given inner.tree a2) t (entering prog (out.tree t) i) z None) (λ a2 z o. Reaches prog (Ruled prog) (given out.tree a2) p h down i lost y (Some t) z o) None a1 s2 (λ ms. sym (in_silent prog out a0 t down i g ms)) q1 n1
-      (λ a2 z o st d. (z, None, record { entered = given inner.tree a2; left = z; entry = st; run = d.1; leaving = refl }, (refl, d.0)))
-      (λ a2 q2 n2. halts k next late (Unit {0}) (Unit {0}) inner left (Run_of inner.tree t (entering prog (out.tree t) i) a2) (λ z o. (o ≡ None) × Derives prog (given inner.tree a2) t (entering prog (out.tree t) i) z None) a2 (halted_tape prog x refl) (paused x a2 q2 n2) (λ z d. (refl, d))))
+      (λ a1 q1 n1. silent k next late reads (Unit {0}) out inner left t (In (Some (length down)) i) (λ a2 z o. (o ≡ None) × Derives prog (given inner.tree a2) t (prog.entry i) z None) (λ a2 z o. Reaches prog (Ruled prog) (given out.tree a2) p h down i lost y (Some t) z o) None a1 s2 (λ ms. sym (in_silent prog out a0 t down i g ms)) q1 n1
+      (λ a2 z o st d. (z, None, record { node = (reached_stands out.tree a0 down t g).0; stands = (reached_stands out.tree a0 down t g).1; entered = given inner.tree a2; left = z; entry = st; run = d.1; leaving = refl }, (refl, d.0)))
+      (λ a2 q2 n2. halts k next late (Unit {0}) (Unit {0}) inner left (Run_of inner.tree t (prog.entry i) a2) (λ z o. (o ≡ None) × Derives prog (given inner.tree a2) t (prog.entry i) z None) a2 (halted_tape prog x refl) (paused x a2 q2 n2) (λ z d. (refl, d))))
   paused (unreached w p h down i lost y a0 out back v e f s1 g s2 x) a q n =
       silent k next late reads (Unit {0}) w out v p (Out h down i) (λ a1 z o. Reaches prog (Ruled prog) (given out.tree a1) p h down i lost y None z o) (Run_of w.tree p (call h down i lost y)) e a s1 (λ ms. refl) q n
       (λ a1 z o st d. reach_rule prog (given w.tree (event p (Out h down i) ∷ a1)) p h down i lost y (given out.tree a1) a0 None z o f g st d)
       (λ a1 q1 n1. silent k next late reads (Unit {0}) out back v p (Back h (Replied (Completed lost))) (Run_of back.tree p (y (Finished lost))) (λ a2 z o. Reaches prog (Ruled prog) (given out.tree a2) p h down i lost y None z o) e a1 s2 (back_silent prog p a0 h (Replied (Completed lost)) f) q1 n1
       (λ a2 z o st d. (given back.tree a2, st, d)) (λ a2 q2 n2. paused x a2 q2 n2))
   paused (called_out w p h down i lost y u v e f s r) a q n =
-      silent k next late reads (Unit {0}) w u v p (Out h down i) (Run_of u.tree p (wait (Some (h, i)) y)) (Run_of w.tree p (call h down i lost y)) e a s (λ ms. refl) q n
+      silent k next late reads (Unit {0}) w u v p (Out h down i) (Run_of u.tree p (wait (Some (h, i, depth_of (u.tree p))) (or_lost lost y))) (Run_of w.tree p (call h down i lost y)) e a s (λ ms. refl) q n
       (λ a1 z o st d. called_out (given w.tree (event p (Out h down i) ∷ a1)) p h down i lost y (given u.tree a1) z o f st d) (λ a1 q1 n1. paused r a1 q1 n1)
   paused (unanswered w p s y f g t) a q n = no_more k next late w a t q
   paused (unfit w p s y m ms f g h t) a q n = no_more k next late w a t q
@@ -379,18 +382,22 @@ module _ {O I : Type 0} (prog : Table O I) (k : ℕ) (next : Event O) (late : Li
       comes w u v p p (Back (height_of s) (Replied (Completed c))) s y (Run_of u.tree p (y (Finished c))) e a f t q n (λ a1 z o st d. answered (given w.tree (event p (Back (height_of s) (Replied (Completed c))) ∷ a1)) p s y c (given u.tree a1) z o f g st d) (λ a1 q1 n1. paused r a1 q1 n1)
   paused (heard w p s y x u v e f g t r) a q n =
       comes w u v p p (Back (height_of s) (Heard x)) s y (Run_of u.tree p (y (Told x))) e a f t q n (λ a1 z o st d. heard (given w.tree (event p (Back (height_of s) (Heard x)) ∷ a1)) p s y x (given u.tree a1) z o f g st d) (λ a1 q1 n1. paused r a1 q1 n1)
+  paused (missed w p s y u v e f g t r) a q n =
+      comes w u v p p (Back (height_of s) Nobody) s y (Run_of u.tree p (y Missed)) e a f t q n (λ a1 z o st d. missed (given w.tree (event p (Back (height_of s) Nobody) ∷ a1)) p s y (given u.tree a1) z o f g st d) (λ a1 q1 n1. paused r a1 q1 n1)
   paused (answered_passed w p s y r u j f g t) a q n =
       comes w u u p p (Back (height_of s) (Replied r)) s y (Ends_so r u) (Some r) a f t q n
       (λ a1 z o st d. ends_so (given w.tree (event p (Back (height_of s) (Replied r)) ∷ a1)) u z p (wait s y) r a1 o (answered_passed (given w.tree (event p (Back (height_of s) (Replied r)) ∷ a1)) p s y r (given u.tree a1) j f g st) d) (λ a1 q1 n1. ended (Unit {0}) u r a1 q1 n1)
-  paused (entered w p s y t i inner left told v r e f s1 x s2 j z) a q n =
-      enters w inner left told v p s y t i r e (Run_of told.tree p (wait s y)) f s1 (λ a1 q1 n1. paused x a1 q1 n1) s2 (λ a1 z2 o d. stays_ruled (given told.tree a1) p s y r z2 o j d) (λ a1 q1 n1. paused z a1 q1 n1) a q n
-  paused (entered_exiting w p s y t i inner left told v m e f s1 x s2 z) a q n =
-      enters w inner left told v p s y t i (Exit m) e (Exits_of told.tree p s m) f s1 (λ a1 q1 n1. paused x a1 q1 n1) s2 (λ a1 z2 o d. d) (λ a1 q1 n1. exits_paused told p s m told.moves v e f refl z a1 q1 n1) a q n
-  paused (entered_halted w p s y t i inner left f s1 x) a q n =
-      comes w inner left p t (In None i) s y (λ a1 z o. (o ≡ None) × Derives prog (given inner.tree a1) t (entering prog (w.tree t) i) z None) None a f s1 q n
-      (λ a1 z o st d. subst (λ o2. Derives prog (given w.tree (event t (In None i) ∷ a1)) p (wait s y) z o2) (sym d.0) (entered_halted (given w.tree (event t (In None i) ∷ a1)) p s y t i (given inner.tree a1) z f st d.1))
-      (λ a1 q1 n1. halts k next late (Unit {0}) (Unit {0}) inner left (Run_of inner.tree t (entering prog (w.tree t) i) a1) (λ z o. (o ≡ None) × Derives prog (given inner.tree a1) t (entering prog (w.tree t) i) z None) a1 (halted_tape prog x refl) (paused x a1 q1 n1) (λ z d. (refl, d)))
+  paused (entered w p s y t i inner left told v r e f here s1 x s2 j z) a q n =
+      enters w inner left told v p s y t i r e (Run_of told.tree p (wait s y)) f here s1 (λ a1 q1 n1. paused x a1 q1 n1) s2 (λ a1 z2 o d. stays_ruled (given told.tree a1) p s y r z2 o j d) (λ a1 q1 n1. paused z a1 q1 n1) a q n
+  paused (entered_exiting w p s y t i inner left told v m e f here s1 x s2 z) a q n =
+      enters w inner left told v p s y t i (Exit m) e (Exits_of told.tree p s m) f here s1 (λ a1 q1 n1. paused x a1 q1 n1) s2 (λ a1 z2 o d. d) (λ a1 q1 n1. exits_paused told p s m told.moves v e f refl z a1 q1 n1) a q n
+  paused (entered_halted w p s y t i inner left f here s1 x) a q n =
+      comes w inner left p t (In None i) s y (λ a1 z o. (o ≡ None) × Derives prog (given inner.tree a1) t (prog.entry i) z None) None a f s1 q n
+      (λ a1 z o st d. subst (λ o2. Derives prog (given w.tree (event t (In None i) ∷ a1)) p (wait s y) z o2) (sym d.0) (entered_halted (given w.tree (event t (In None i) ∷ a1)) p s y t i (given inner.tree a1) z f here st d.1))
+      (λ a1 q1 n1. halts k next late (Unit {0}) (Unit {0}) inner left (Run_of inner.tree t (prog.entry i) a1) (λ z o. (o ≡ None) × Derives prog (given inner.tree a1) t (prog.entry i) z None) a1 (halted_tape prog x refl) (paused x a1 q1 n1) (λ z d. (refl, d)))
   paused (born w p s y o c u v e f t r) a q n =
       comes w u v p [] (Made o c) s y (Run_of u.tree p (wait s y)) e a f t q n (λ a1 z o2 st d. born (given w.tree (event [] (Made o c) ∷ a1)) p s y o c (given u.tree a1) z o2 f st d) (λ a1 q1 n1. paused r a1 q1 n1)
+  paused (unfound w p s y t i u v e f here b r) a q n =
+      comes w u v p [] (Unfound t i (prog.lost t)) s y (Run_of u.tree p (wait s y)) e a f b q n (λ a1 z o2 st d. unfound (given w.tree (event [] (Unfound t i (prog.lost t)) ∷ a1)) p s y t i (given u.tree a1) z o2 f here st d) (λ a1 q1 n1. paused r a1 q1 n1)
   paused (fallen w p s y u v e f t r) a q n =
       comes w u v p [] Dropped s y (Run_of u.tree p (wait s y)) e a f t q n (λ a1 z o2 st d. fallen (given w.tree (event [] Dropped ∷ a1)) p s y (given u.tree a1) z o2 f st d) (λ a1 q1 n1. paused r a1 q1 n1)

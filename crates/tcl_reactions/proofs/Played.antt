@@ -4,22 +4,22 @@ use Rattle.tcl_core.specs.Paths.{Path, Place}
 use Rattle.tcl_core.specs.Endings.{Reply}
 use Rattle.tcl_core.specs.Endings.Reply.{Completed, Stop, Exit, Cut}
 use Rattle.tcl_core.specs.Entries.{Entry}
-use Rattle.tcl_core.specs.Entries.Answer.{Replied, Heard}
-use Rattle.tcl_core.specs.Trees.{Tree, Event, Move, Grants}
-use Rattle.tcl_core.specs.Trees.What.{In, Out, Done, Back}
+use Rattle.tcl_core.specs.Entries.Answer.{Replied, Heard, Nobody}
+use Rattle.tcl_core.specs.Trees.{Tree, Event, Move, Grants, depth_of, Node}
+use Rattle.tcl_core.specs.Trees.What.{In, Out, Done, Back, Unfound}
 use Rattle.tcl_core.specs.Trees.Move.{Born, Fall, Enter, Come}
 use Rattle.tcl_core.specs.Programs.{Prog, Table, spot}
 use Rattle.tcl_core.specs.Programs.Prog.{done, exit, wait}
-use Rattle.tcl_core.specs.Runs.{World, Ending, Halts, Exits, carried, entering, height_of}
+use Rattle.tcl_core.specs.Runs.{World, Ending, Halts, Exits, carried, height_of, gone}
 use Rattle.tcl_core.specs.Rules.{Derives, IsNoExit}
 use Rattle.tcl_core.specs.Execution.{Crossings, Executes, event}
-use Rattle.tcl_core.specs.Execution.Executes.{completed, exited, acted, refused, went, passed, wrapped, wrapped_passed, too_deep, shut, called, called_passed, unreached, called_out, answered, heard, answered_passed, entered, entered_exiting}
+use Rattle.tcl_core.specs.Execution.Executes.{completed, exited, acted, refused, went, passed, wrapped, wrapped_passed, too_deep, shut, called, called_passed, unreached, called_out, answered, heard, missed, answered_passed, entered, entered_exiting, unfound}
 use Rattle.tcl_core.specs.Lives.{Outcome, copies, idle, never}
 use Rattle.tcl_core.specs.Lives.Outcome.{Finished, Exited}
 use Rattle.tcl_core.proofs.Unended
 use Rattle.tcl_core.proofs.Unended.{NotCut, on_no_cut}
 use Rattle.tcl_reactions.specs.Playing
-use Rattle.tcl_reactions.specs.Playing.{Fate, HandsIn, IsEnd, Lived, Player, last_end, plays, telling}
+use Rattle.tcl_reactions.specs.Playing.{Fate, HandsIn, IsEnd, Lived, Player, last_end, plays, telling, FindsNobody}
 use Rattle.tcl_reactions.proofs.Ways.{allowed_budget, Calm, IsBudget, Rest, Way, ahead, ahead-append, calm_finished, here, later, next}
 use Rattle.tcl_reactions.proofs.Leads.{Affords, Breaks, Comes, Halting, Leads, May, Prefix, Result, StopsAt, after_way, calls, first, may_end, rest, stops_more, tail_leads, world}
 use Rattle.tcl_reactions.proofs.Leads.Breaks.{halts, unwinds}
@@ -27,8 +27,8 @@ use Rattle.tcl_reactions.proofs.Leads.Result.{ran, broke}
 use Rattle.tcl_reactions.proofs.Deeds.{act_calm, act_way, open_calm, open_way}
 use Rattle.tcl_reactions.proofs.Plays.{acted_by, at_once, passed_by, refused_by, shut_by, too_deep_by, went_by, wrapped_by, wrapped_passed_by}
 use Rattle.tcl_reactions.proofs.Crossed.{called_by, called_out_by, called_passed_by, starts, starts_same, unreached_by}
-use Rattle.tcl_reactions.proofs.Waited.{answered_by, answered_passed_by, entered_by, entered_exiting_by, heard_by}
-use Rattle.tcl_reactions.proofs.Turns.{after_end, answers_at, done_end, done_on, done_over, in_way, not_some, same_end, visit_way}
+use Rattle.tcl_reactions.proofs.Waited.{answered_by, answered_passed_by, entered_by, entered_exiting_by, heard_by, unfound_by, missed_by}
+use Rattle.tcl_reactions.proofs.Turns.{after_end, answers_at, done_end, done_on, done_over, in_way, not_some, same_end, visit_way, unfound_way, unfound_end}
 
 module _ {O I : Type 0} (prog : Table O I) where
   pub played : {T : Tree O} {o : Player O} {p : Place} {x : Prog O I} {V : Tree O} {z : Player O} {r : Reply} → Executes (Crossings plays) prog T o p x V z r → o.fate ≡ None → Calm (last_end o) → Result prog T o p x V z r
@@ -55,7 +55,7 @@ module _ {O I : Type 0} (prog : Table O I) where
       let j : o2 ≡ o = starts_same prog T U o o1 o2 o3 o4 o5 p a t h down i lost k s e there s1 s2 s3 s4 in
       called_by prog T U o o1 o2 o3 o4 o5 p a t h down i lost k s e there s1 s2 s3 s4 V z c r n so (played x w.goes_on (subst (λ v. Calm (last_end v)) (sym j) m)) (λ f g. played y f g)
   played (called_passed {T} {U} {o} {o1} {o2} {o3} {o4} {o5} {p} {h} {down} {i} {lost} {k} {s} {r} a t e there s1 s2 x s3 so q s4) n m =
-      let s5 : Crossings plays U o4 None (event p (Back h (Replied (carried h p down s)))) o5 = subst (λ l. Crossings plays U o4 None (event p (Back h (Replied l))) o5) (sym so) s4 in
+      let s5 : Crossings plays U o4 None (event p (Back h (Replied (carried (gone (depth_of (T p)) U p) h p down s)))) o5 = subst (λ l. Crossings plays U o4 None (event p (Back h (Replied l))) o5) (sym so) s4 in
       let w : Way 0 o (event p (Out h down i) ∷ event t (In (Some (length down)) i) ∷ []) o2 = starts prog T U o o1 o2 o3 o4 o5 p a t h down i lost k s e there s1 s2 s3 s5 n in
       let j : o2 ≡ o = starts_same prog T U o o1 o2 o3 o4 o5 p a t h down i lost k s e there s1 s2 s3 s5 in
       called_passed_by prog T U o o1 o2 o3 o4 o5 p a t h down i lost k s e there s1 s2 s3 s5 r n so q (played x w.goes_on (subst (λ v. Calm (last_end v)) (sym j) m))
@@ -64,13 +64,15 @@ module _ {O I : Type 0} (prog : Table O I) where
   played (answered {T} {V} {o} {u} {z} {p} {s} {k} {c} {r} e fit st t) n m =
       answered_by prog T V o u z p s k c r e fit (answers_at T s p (height_of s) (Replied (Completed c)) o u e st) m (λ f g. played t f g)
   played (heard {T} {V} {o} {u} {z} {p} {s} {k} {a} {r} e fit st t) n m = heard_by prog T V o u z p s k a r e fit (answers_at T s p (height_of s) (Heard a) o u e st) m (λ f g. played t f g)
+  played (missed {T} {V} {o} {u} {z} {p} {s} {k} {r} e fit st t) n m = missed_by prog T V o u z p s k r e fit (answers_at T s p (height_of s) Nobody o u e st) m (λ f g. played t f g)
   played (answered_passed {T} {o} {u} {p} {s} {k} {r} q e fit st) n m = answered_passed_by prog T o u p s k r q e fit (answers_at T s p (height_of s) (Replied r) o u e st) n m
-  played (entered {T} {U} {V} {o} {o1} {o2} {o3} {z} {p} {s} {k} {y} {r} t i e s1 a s2 nx b) n m =
+  played (entered {T = T} {U = U} {V = V} {o = o} {o1 = o1} {o2 = o2} {o3 = o3} {z = z} {p = p} {s = s} {k = k} {y = y} {r = r} t i e here s1 a s2 nx b) n m =
       let into : HandsIn o t i o1 = s1.told in
-      entered_by prog T U o o1 o2 o3 p s k t i e into V z y r (played a (ap (λ v. v.fate) into.2 ∙ n) (subst Calm (sym (same_end o o1 o1.left into.2)) m)) s2 nx (λ f g. played b f g) (after_end prog b)
-  played (entered_exiting {T} {U} {o} {o1} {o2} {o3} {o4} {p} {c} {k} {n} t i e s1 a s2 s3) l m =
+      entered_by prog T U o o1 o2 o3 p s k t i e here into V z y r (played a (ap (λ v. v.fate) into.2 ∙ n) (subst Calm (sym (same_end o o1 o1.left into.2)) m)) s2 nx (λ f g. played b f g) (after_end prog b)
+  played (entered_exiting {T = T} {U = U} {o = o} {o1 = o1} {o2 = o2} {o3 = o3} {o4 = o4} {p = p} {c = c} {k = k} {n = n} t i e here s1 a s2 s3) l m =
       let into : HandsIn o t i o1 = s1.told in
-      entered_exiting_by prog T U o o1 o2 o3 o4 p c k t i n e into s2 (played a (ap (λ v. v.fate) into.2 ∙ l) (subst Calm (sym (same_end o o1 o1.left into.2)) m)) s3
+      entered_exiting_by prog T U o o1 o2 o3 o4 p c k t i n e here into s2 (played a (ap (λ v. v.fate) into.2 ∙ l) (subst Calm (sym (same_end o o1 o1.left into.2)) m)) s3
+  played (unfound {T = T} {V = V} {o = o} {u = u} {z = z} {p = p} {s = s} {k = k} {r = r} t i e here s1 b) n m = unfound_by prog T V o u z p s k t i r e here s1.told (λ f g. played b f g)
 
 module _ {O : Type 0} where
   -- the life of a tree that halts
@@ -108,46 +110,53 @@ module _ {O I : Type 0} (prog : Table O I) where
     builds = λ y n v e d. subst (λ l. Derives prog l [] (wait idle never) v e) (sym (ahead-append T a b y)) (f.builds (later b y) (allowed_budget b y.grants n) v e (g.builds y n v e d));
   }
 
-  -- one entry more
-  module _ (U V : Tree O) (u w v z : Player O) (t : Path) (i : Entry) (into : HandsIn u t i w) where
+  -- one entry more, that finds nobody
+  strayed : (U : Tree O) (u z : Player O) (t : Path) (i : Entry) → U t ≡ None → FindsNobody u t i (prog.lost t) z → Prefixed U u (event [] (Unfound t i (prog.lost t)) ∷ []) U z
+  strayed U u z t i gone g = record {
+    way = unfound_way t i (prog.lost t) u z g;
+    builds = λ y b v e d. Derives.unfound (ahead U (event [] (Unfound t i (prog.lost t)) ∷ []) y) [] idle never t i (ahead U [] y) v e refl gone (next U [] (Unfound t i (prog.lost t)) [] y) d;
+  }
+
+  -- or somebody
+  module _ (U V : Tree O) (u w v z : Player O) (t : Path) (i : Entry) {node : Node O} (stands : U t ≡ Some node) (into : HandsIn u t i w) where
     abbrev e1 : Event O
     e1 = event t (In None i)
 
     abbrev e2 : Reply → Event O
     e2 r = event t (Done None r)
 
-    goes_on : (τ : List (Event O)) (r : Reply) → Leads prog U w t (entering prog (U t) i) 0 τ v (Comes V r) → z ≡ telling v (e2 r) → NotCut r → IsNoExit r → Prefixed U u (e1 ∷ (τ ++ e2 r ∷ [])) V z
+    goes_on : (τ : List (Event O)) (r : Reply) → Leads prog U w t (prog.entry i) 0 τ v (Comes V r) → z ≡ telling v (e2 r) → NotCut r → IsNoExit r → Prefixed U u (e1 ∷ (τ ++ e2 r ∷ [])) V z
     goes_on τ r l q n nx = record {
       way = visit_way t i r u w v z τ into l.way q n;
-      builds = λ y b x d h. Derives.entered (ahead U (e1 ∷ (τ ++ e2 r ∷ [])) y) [] idle never t i (ahead U (τ ++ e2 r ∷ []) y) (ahead V (e2 r ∷ []) y) (ahead V [] y) x r d refl
-          (next U t (In None i) (τ ++ e2 r ∷ []) y) (first prog U V t (entering prog (U t) i) r w v τ (e2 r ∷ []) y b l) (next V t (Done None r) [] y) nx h;
+      builds = λ y b x d h. Derives.entered (ahead U (e1 ∷ (τ ++ e2 r ∷ [])) y) [] idle never t i (ahead U (τ ++ e2 r ∷ []) y) (ahead V (e2 r ∷ []) y) (ahead V [] y) x r d refl stands
+          (next U t (In None i) (τ ++ e2 r ∷ []) y) (first prog U V t (prog.entry i) r w v τ (e2 r ∷ []) y b l) (next V t (Done None r) [] y) nx h;
     }
 
-    exits_there : (τ : List (Event O)) (n : ℤ) → Leads prog U w t (entering prog (U t) i) 0 τ v (Comes V (Exit n)) → z ≡ telling v (e2 (Exit n)) → Life U u 0 (e1 ∷ (τ ++ e2 (Exit n) ∷ [])) z (Rests V)
+    exits_there : (τ : List (Event O)) (n : ℤ) → Leads prog U w t (prog.entry i) 0 τ v (Comes V (Exit n)) → z ≡ telling v (e2 (Exit n)) → Life U u 0 (e1 ∷ (τ ++ e2 (Exit n) ∷ [])) z (Rests V)
     exits_there τ n l q = record { way = visit_way t i (Exit n) u w v z τ into l.way q tt; runs = runs }
       where
         runs : (y : Rest O) → IsBudget y.grants → (x : World O) (d : Ending) → Rests V y x d → Derives prog (ahead U (e1 ∷ (τ ++ e2 (Exit n) ∷ [])) y) [] (wait idle never) x d
         runs y b x d (rests y2 h) =
-            Derives.entered_exiting (ahead U (e1 ∷ (τ ++ e2 (Exit n) ∷ [])) y2) [] idle never t i (ahead U (τ ++ e2 (Exit n) ∷ []) y2) (ahead V (e2 (Exit n) ∷ []) y2) (ahead V [] y2) (ahead V [] y2) n None refl
-            (next U t (In None i) (τ ++ e2 (Exit n) ∷ []) y2) (first prog U V t (entering prog (U t) i) (Exit n) w v τ (e2 (Exit n) ∷ []) y2 b l) (next V t (Done None (Exit n)) [] y2)
+            Derives.entered_exiting (ahead U (e1 ∷ (τ ++ e2 (Exit n) ∷ [])) y2) [] idle never t i (ahead U (τ ++ e2 (Exit n) ∷ []) y2) (ahead V (e2 (Exit n) ∷ []) y2) (ahead V [] y2) (ahead V [] y2) n None refl stands
+            (next U t (In None i) (τ ++ e2 (Exit n) ∷ []) y2) (first prog U V t (prog.entry i) (Exit n) w v τ (e2 (Exit n) ∷ []) y2 b l) (next V t (Done None (Exit n)) [] y2)
             (exits_idle (ahead V [] y2) (ahead V [] y2) n y2.moves (record { tape = h; same = refl; ending = refl }))
 
-    unwound_so : (τ : List (Event O)) (r : Reply) (y : Rest O) → IsEnd (Replied r) → Derives prog (ahead U τ y) t (entering prog (U t) i) (world V [] y.grants (e2 r ∷ [])) (Some r) → Derives prog (ahead U (e1 ∷ τ) y) [] (wait idle never) (world V [] y.grants []) None
+    unwound_so : (τ : List (Event O)) (r : Reply) (y : Rest O) → IsEnd (Replied r) → Derives prog (ahead U τ y) t (prog.entry i) (world V [] y.grants (e2 r ∷ [])) (Some r) → Derives prog (ahead U (e1 ∷ τ) y) [] (wait idle never) (world V [] y.grants []) None
     unwound_so τ (Completed c) y en d = absurd en
     unwound_so τ (Stop n m) y en d = absurd en
     unwound_so τ (Cut c) y en d =
-        Derives.entered (ahead U (e1 ∷ τ) y) [] idle never t i (ahead U τ y) (world V [] y.grants (e2 (Cut c) ∷ [])) (world V [] y.grants []) (world V [] y.grants []) (Cut c) None refl
+        Derives.entered (ahead U (e1 ∷ τ) y) [] idle never t i (ahead U τ y) (world V [] y.grants (e2 (Cut c) ∷ [])) (world V [] y.grants []) (world V [] y.grants []) (Cut c) None refl stands
         (next U t (In None i) τ y) d (record { tape = refl; tree = refl; moves = refl; grants = refl }) tt (Derives.unanswered (world V [] y.grants []) [] idle never refl refl refl)
     unwound_so τ (Exit n) y en d =
-        Derives.entered_exiting (ahead U (e1 ∷ τ) y) [] idle never t i (ahead U τ y) (world V [] y.grants (e2 (Exit n) ∷ [])) (world V [] y.grants []) (world V [] y.grants []) n None refl
+        Derives.entered_exiting (ahead U (e1 ∷ τ) y) [] idle never t i (ahead U τ y) (world V [] y.grants (e2 (Exit n) ∷ [])) (world V [] y.grants []) (world V [] y.grants []) n None refl stands
         (next U t (In None i) τ y) d (record { tape = refl; tree = refl; moves = refl; grants = refl }) (record { tape = refl; same = refl; ending = refl })
 
-    stops_there : (τ : List (Event O)) (x : Player O) (j : ℕ) (f : Fate O) (S : Tree O) (σ : Reply → List (Event O)) → Leads prog U w t (entering prog (U t) i) j τ x (Breaks f S V x j σ) → Life U u (suc j) (e1 ∷ τ) x (Ends f S V x j (λ r. σ r ++ e2 r ∷ []))
+    stops_there : (τ : List (Event O)) (x : Player O) (j : ℕ) (f : Fate O) (S : Tree O) (σ : Reply → List (Event O)) → Leads prog U w t (prog.entry i) j τ x (Breaks f S V x j σ) → Life U u (suc j) (e1 ∷ τ) x (Ends f S V x j (λ r. σ r ++ e2 r ∷ []))
     stops_there τ x j f S σ l = record { way = in_way j t i u w x τ into l.way; runs = runs }
       where
         runs : (y : Rest O) → IsBudget y.grants → (q : World O) (d : Ending) → Ends f S V x j (λ r. σ r ++ e2 r ∷ []) y q d → Derives prog (ahead U (e1 ∷ τ) y) [] (wait idle never) q d
         runs y b q d (halts_at y2 h g) =
-            Derives.entered_halted (ahead U (e1 ∷ τ) y2) [] idle never t i (ahead U τ y2) (ahead S [] y2) refl (next U t (In None i) τ y2) (l.runs y2 b (ahead S [] y2) None (halts y2 h g))
+            Derives.entered_halted (ahead U (e1 ∷ τ) y2) [] idle never t i (ahead U τ y2) (ahead S [] y2) refl stands (next U t (In None i) τ y2) (l.runs y2 b (ahead S [] y2) None (halts y2 h g))
         runs y b q d (unwound_at r gs m a) =
             let y2 : Rest O = rest (copies (calls f j) (Come (Replied r)) ++ []) gs (σ r ++ e2 r ∷ []) in
             subst (λ ms. Derives prog (ahead U (e1 ∷ τ) (rest ms gs (σ r ++ e2 r ∷ []))) [] (wait idle never) (world V [] gs []) None) (append-nil (copies (calls f j) (Come (Replied r))))
@@ -159,7 +168,7 @@ module _ {O I : Type 0} (prog : Table O I) where
     finished_by (Cut c) n q = done_end t (Cut c) v z q
     finished_by (Exit k) n q = absurd n
 
-    visited : (T : Tree O) (o : Player O) (r : Reply) (a : List (Event O)) → Prefixed T o a U u → Result prog U w t (entering prog (U t) i) V v r → Crossings plays V v None (e2 r) z → Becomes T o V z
+    visited : (T : Tree O) (o : Player O) (r : Reply) (a : List (Event O)) → Prefixed T o a U u → Result prog U w t (prog.entry i) V v r → Crossings plays V v None (e2 r) z → Becomes T o V z
     visited T o (Completed c) a f (ran τ l n m) s =
         let q : z ≡ telling v (e2 (Completed c)) = done_on V t (Completed c) v z s l.way.goes_on in
         on (a ++ e1 ∷ (τ ++ e2 (Completed c) ∷ [])) (then_on T U V o u z a (e1 ∷ (τ ++ e2 (Completed c) ∷ [])) f (goes_on τ (Completed c) l q n tt)) (finished_by (Completed c) tt q)
@@ -180,10 +189,16 @@ module _ {O I : Type 0} (prog : Table O I) where
 
   pub over_of : (T : Tree O) (o : Player O) {V : Tree O} {z : Player O} → Lived prog T o V z → o.fate ≡ None → last_end o ≡ Finished → Becomes T o V z
   over_of T o (Playing.Lived.begun) n m = on [] (record { way = here o n; builds = λ y b v e d. d }) m
-  over_of T o (Playing.Lived.entered {U} {V} {u} {w} {v} {z} t i r l g h into a s) n m = by (over_of T o l n m)
+  over_of T o (Playing.Lived.unfound {U = U} {u = u} {z = z} t i l g h gone s) n m = by (over_of T o l n m)
+    where
+      by : Becomes T o U u → Becomes T o U z
+      by (on τ f k) = on (τ ++ event [] (Unfound t i (prog.lost t)) ∷ []) (then_on T U U o u z τ (event [] (Unfound t i (prog.lost t)) ∷ []) f (strayed U u z t i gone s)) (unfound_end t i (prog.lost t) u z s)
+      by (exits τ k f q) = not_exited (last_end u) k q h
+      by (stops τ x j f S σ k q y b) = not_some u.fate f g q
+  over_of T o (Playing.Lived.entered {U = U} {V = V} {u = u} {w = w} {v = v} {z = z} t i r l g h stands into a s) n m = by (over_of T o l n m)
     where
       by : Becomes T o U u → Becomes T o V z
       by (on τ f k) =
-          visited U V u w v z t i into T o r τ f (played prog a (ap (λ x. x.fate) into.2 ∙ g) (subst Calm (sym (same_end u w w.left into.2)) (calm_finished (last_end u) h))) (record { told = s })
+          visited U V u w v z t i stands into T o r τ f (played prog a (ap (λ x. x.fate) into.2 ∙ g) (subst Calm (sym (same_end u w w.left into.2)) (calm_finished (last_end u) h))) (record { told = s })
       by (exits τ k f q) = not_exited (last_end u) k q h
       by (stops τ x j f S σ k q y b) = not_some u.fate f g q

@@ -6,7 +6,7 @@ use Rattle.tcl_core.specs.Endings.Meter.{Count, Depth}
 use Rattle.tcl_core.specs.Endings.Reply.{Completed, Cut}
 use Rattle.tcl_core.specs.Endings.Cause.{Over}
 use Rattle.tcl_core.specs.Entries.Answer.{Replied}
-use Rattle.tcl_core.specs.Trees.{Tree, Event, at, effect, granted}
+use Rattle.tcl_core.specs.Trees.{Tree, Event, at, effect, granted, Node}
 use Rattle.tcl_core.specs.Trees.Grants.{Budget, Listed}
 use Rattle.tcl_core.specs.Trees.What.{Charged, Refused}
 use Rattle.tcl_core.specs.Programs.{Deed, Next, spot, Act, Wrap, Prog, Table, decide, opens, closes, metered, blocked, is_spent}
@@ -32,6 +32,7 @@ use Rattle.tcl_reactions.proofs.Leads.Comes.{came}
 use Rattle.tcl_reactions.proofs.Leads.Result.{ran, broke}
 use Rattle.tcl_reactions.proofs.Deeds.{act_calm, act_cut, act_uncut, act_way, decided, off_not_cut, open_calm, open_cut, open_uncut, open_way, opened, plain_calm}
 use Rattle.tcl_reactions.proofs.Turns.{not_some}
+use Rattle.tcl_core.specs.Endings.Kind.{Full}
 
 pub plus_none : (n : ℕ) → n ≡ n + 0
 plus_none n = omega arith
@@ -122,24 +123,24 @@ module _ {O I : Type 0} (prog : Table O I) where
   on_of : (x : Deed O) → x.2 ≡ On → Unended.IsNoCut x.2
   on_of x e = subst Unended.IsNoCut (sym e) tt
 
-  closing_way : (U : Tree O) (p : Place) (b : Wrap O) (o u : Player O) → Crossings plays U o None (event p (closes b (U p))) u → o.fate ≡ None → Way 0 o (event p (closes b (U p)) ∷ []) u
-  closing_way U p b o u s n = plain_way U None p (closes b (U p)) o u (closes_plain b (U p)) (closes_uncut p b (U p)) (closes_silent p b (U p)) s n
+  closing_way : (m : Option (Node O)) (U : Tree O) (p : Place) (b : Wrap O) (o u : Player O) → Crossings plays U o None (event p (closes b m (U p))) u → o.fate ≡ None → Way 0 o (event p (closes b m (U p)) ∷ []) u
+  closing_way m U p b o u s n = plain_way U None p (closes b m (U p)) o u (closes_plain b m (U p)) (closes_uncut p b m (U p)) (closes_silent p b m (U p)) s n
 
-  closing_calm : (U : Tree O) (p : Place) (b : Wrap O) (o u : Player O) → Way 0 o (event p (closes b (U p)) ∷ []) u → Calm (last_end o) → Calm (last_end u)
-  closing_calm U p b o u w c = plain_calm p (closes b (U p)) o u (closes_plain b (U p)) w c
+  closing_calm : (m : Option (Node O)) (U : Tree O) (p : Place) (b : Wrap O) (o u : Player O) → Way 0 o (event p (closes b m (U p)) ∷ []) u → Calm (last_end o) → Calm (last_end u)
+  closing_calm m U p b o u w c = plain_calm p (closes b m (U p)) o u (closes_plain b m (U p)) w c
 
-  module _ (T U : Tree O) (o o1 o2 o3 : Player O) (p : Place) (b : Wrap O) (i : I) (k : Completion → Prog O I) (x : Deed O) (is_so : Opens_so b T p x) (on : x.2 ≡ On) (w1 : Way 0 o (event (spot p x.0) x.1 ∷ []) o1) (s2 : Crossings plays U o2 None (event p (closes b (U p))) o3) where
+  module _ (T U : Tree O) (o o1 o2 o3 : Player O) (p : Place) (b : Wrap O) (i : I) (k : Completion → Prog O I) (x : Deed O) (is_so : Opens_so b T p x) (on : x.2 ≡ On) (w1 : Way 0 o (event (spot p x.0) x.1 ∷ []) o1) (s2 : Crossings plays U o2 None (event p (closes b (effect (spot p x.0) x.1 T p) (U p))) o3) where
     abbrev T1 : Tree O
     T1 = effect (spot p x.0) x.1 T
 
     abbrev U1 : Tree O
-    U1 = effect p (closes b (U p)) U
+    U1 = effect p (closes b (T1 p) (U p)) U
 
     abbrev e1 : Event O
     e1 = event (spot p x.0) x.1
 
     abbrev e2 : Event O
-    e2 = event p (closes b (U p))
+    e2 = event p (closes b (T1 p) (U p))
 
     opens_here : (τ : List (Event O)) (y : Rest O) → IsBudget (allowed τ y.grants) → opens b T p (ahead T (e1 ∷ τ) y).grants ≡ Some x
     opens_here τ y n = opened b T p x is_so (open_uncut b T p x is_so (on_of x on)) (allowed τ y.grants) n
@@ -147,36 +148,36 @@ module _ {O I : Type 0} (prog : Table O I) where
     pub wrapped_by : (V : Tree O) (z : Player O) (c : Completion) (r : Reply) → Result prog T1 o1 p (prog.program i) U o2 (Completed c) → (o3.fate ≡ None → Calm (last_end o3) → Result prog U1 o3 p (k c) V z r) → Result prog T o p (inside b i k) V z r
     wrapped_by V z c r (broke τ w j f S σ l h e s n) g = absurd n
     wrapped_by V z c r (ran τ l n m) g =
-        let w2 : Way 0 o2 (e2 ∷ []) o3 = closing_way U p b o2 o3 s2 l.way.goes_on in
+        let w2 : Way 0 o2 (e2 ∷ []) o3 = closing_way (T1 p) U p b o2 o3 s2 l.way.goes_on in
         tail prog T U1 V o o3 z p p (inside b i k) (k c) r (e1 ∷ (τ ++ e2 ∷ [])) (record {
           way = after_way 0 o o1 o3 (e1 ∷ []) (τ ++ e2 ∷ []) w1 (after_way 0 o1 o2 o3 τ (e2 ∷ []) l.way w2);
           builds = λ y q v e d. Derives.wrapped (ahead T (e1 ∷ (τ ++ e2 ∷ [])) y) p b i k x (ahead T1 (τ ++ e2 ∷ []) y) (ahead U (e2 ∷ []) y) (ahead U1 [] y) v c e
               (opens_here (τ ++ e2 ∷ []) y (allowed_budget (τ ++ e2 ∷ []) y.grants q)) on (next T (spot p x.0) x.1 (τ ++ e2 ∷ []) y)
-              (first prog T1 U p (prog.program i) (Completed c) o1 o2 τ (e2 ∷ []) y q l) (next U p (closes b (U p)) [] y) d;
-        }) (g w2.goes_on (closing_calm U p b o2 o3 w2 (m tt)))
+              (first prog T1 U p (prog.program i) (Completed c) o1 o2 τ (e2 ∷ []) y q l) (next U p (closes b (T1 p) (U p)) [] y) d;
+        }) (g w2.goes_on (closing_calm (T1 p) U p b o2 o3 w2 (m tt)))
 
     pub wrapped_passed_by : (r : Reply) → IsQuit r → Result prog T1 o1 p (prog.program i) U o2 r → Result prog T o p (inside b i k) U1 o3 r
     wrapped_passed_by r q (ran τ l n m) =
-        let w2 : Way 0 o2 (e2 ∷ []) o3 = closing_way U p b o2 o3 s2 l.way.goes_on in
+        let w2 : Way 0 o2 (e2 ∷ []) o3 = closing_way (T1 p) U p b o2 o3 s2 l.way.goes_on in
         ran (e1 ∷ (τ ++ e2 ∷ [])) (record {
           way = after_way 0 o o1 o3 (e1 ∷ []) (τ ++ e2 ∷ []) w1 (after_way 0 o1 o2 o3 τ (e2 ∷ []) l.way w2);
           runs = came_to T U1 p (inside b i k) r (e1 ∷ (τ ++ e2 ∷ [])) (λ y g. Derives.wrapped_passed (ahead T (e1 ∷ (τ ++ e2 ∷ [])) y) p b i k x (ahead T1 (τ ++ e2 ∷ []) y) (ahead U (e2 ∷ []) y) (ahead U1 [] y) r q
               (opens_here (τ ++ e2 ∷ []) y (allowed_budget (τ ++ e2 ∷ []) y.grants g)) on (next T (spot p x.0) x.1 (τ ++ e2 ∷ []) y)
-              (first prog T1 U p (prog.program i) r o1 o2 τ (e2 ∷ []) y g l) (next U p (closes b (U p)) [] y));
-        }) n (λ f. closing_calm U p b o2 o3 w2 (m f))
+              (first prog T1 U p (prog.program i) r o1 o2 τ (e2 ∷ []) y g l) (next U p (closes b (T1 p) (U p)) [] y));
+        }) n (λ f. closing_calm (T1 p) U p b o2 o3 w2 (m f))
     wrapped_passed_by r q (broke τ w j f S σ l h e s n) =
-        let same : o3 ≡ o2 = closes_same U None p b (U p) o2 o3 s2 in
+        let same : o3 ≡ o2 = closes_same U None p b (T1 p) (U p) o2 o3 s2 in
         broke (e1 ∷ τ) w j f S (λ a. σ a ++ e2 ∷ [])
         (around prog T T1 S U U1 o o1 w p p (inside b i k) (prog.program i) j j 0 f τ (e1 ∷ τ) σ (λ a. e2 ∷ []) (plus_none (calls f j)) (after_way j o o1 w (e1 ∷ []) τ w1 l.way) l
         (λ y g d. Derives.wrapped_halted (ahead T (e1 ∷ τ) y) p b i k x (ahead T1 τ y) (ahead S [] y) (opens_here τ y (allowed_budget τ y.grants g)) on (next T (spot p x.0) x.1 τ y) d)
         (λ a ms y ρ g en d. Derives.wrapped_passed (ahead T (e1 ∷ τ) y) p b i k x (ahead T1 τ y) (world U ms y.grants (e2 ∷ ρ)) (world U1 ms y.grants ρ) a (end_quits a en)
-        (opens_here τ y (allowed_budget τ y.grants g)) on (next T (spot p x.0) x.1 τ y) d (closing_step U p b ms y.grants ρ)))
+        (opens_here τ y (allowed_budget τ y.grants g)) on (next T (spot p x.0) x.1 τ y) d (closing_step (T1 p) U p b ms y.grants ρ)))
         (ap (λ z. z.fate) same ∙ h) (ap (λ z. z.outs) same ∙ e) (stops_more f S σ (λ a. e2 ∷ []) w s) n
 
   pub too_deep_by : (T V : Tree O) (o u z : Player O) (p : Place) (b : Wrap O) (i : I) (k : Completion → Prog O I) (r : Reply) (x : Deed O) → Opens_so b T p x → x.2 ≡ TooDeep → Way 0 o (event (spot p x.0) x.1 ∷ []) u →
-      Result prog (effect (spot p x.0) x.1 T) u p (k (refusal Depth)) V z r → Result prog T o p (inside b i k) V z r
+      Result prog (effect (spot p x.0) x.1 T) u p (k (refusal (Full Depth))) V z r → Result prog T o p (inside b i k) V z r
   too_deep_by T V o u z p b i k r x is_so deep w g =
-      tail prog T (effect (spot p x.0) x.1 T) V o u z p p (inside b i k) (k (refusal Depth)) r (event (spot p x.0) x.1 ∷ []) (record {
+      tail prog T (effect (spot p x.0) x.1 T) V o u z p p (inside b i k) (k (refusal (Full Depth))) r (event (spot p x.0) x.1 ∷ []) (record {
         way = w;
         builds = λ y n v e h. Derives.too_deep (ahead T (event (spot p x.0) x.1 ∷ []) y) p b i k x (ahead (effect (spot p x.0) x.1 T) [] y) v e
             (opened b T p x is_so (open_uncut b T p x is_so (subst Unended.IsNoCut (sym deep) tt)) y.grants n) deep (next T (spot p x.0) x.1 [] y) h;

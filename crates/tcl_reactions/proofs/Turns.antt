@@ -1,28 +1,29 @@
 -- What a player reads and is told at the top of the tree: an entry and its end, an answer.
 use Rattle.std.proofs.Common.{sym, ◌≡◌, ℕ, suc, ◌+◌, true, List, [], ◌∷◌, ◌++◌, Option, Some, None, refl, ◌∙◌, ap, subst, arith, append-nil, append_assoc}
 use Rattle.tcl_core.specs.Paths.{Path, Place, Height, rise_to}
-use Rattle.tcl_core.specs.Endings.{Reply, Cause}
+use Rattle.tcl_core.specs.Endings.{Reply, Cause, Completion}
 use Rattle.tcl_core.specs.Endings.Reply.{Completed, Stop, Exit, Cut}
 use Rattle.tcl_core.specs.Entries.{Entry, Answer}
-use Rattle.tcl_core.specs.Entries.Answer.{Replied, Heard}
+use Rattle.tcl_core.specs.Entries.Answer.{Replied, Heard, Nobody}
 use Rattle.tcl_core.specs.Trees.{Tree, Event, Move, where_none}
 use Rattle.tcl_core.specs.Trees.Grants.{Budget}
-use Rattle.tcl_core.specs.Trees.What.{In, Done, Back}
+use Rattle.tcl_core.specs.Trees.What.{In, Done, Back, Unfound}
 use Rattle.tcl_core.specs.Trees.Move.{Enter, Come}
 use Rattle.tcl_core.specs.Programs.{Wait, Prog, Table}
 use Rattle.tcl_core.specs.Programs.Prog.{wait}
 use Rattle.tcl_core.specs.Runs.{fits, height_of}
 use Rattle.tcl_core.specs.Rules.{IsNoExit}
 use Rattle.tcl_core.specs.Execution.{Crossings, Executes, event}
-use Rattle.tcl_core.specs.Execution.Executes.{completed, exited, acted, refused, went, passed, wrapped, wrapped_passed, too_deep, shut, called, called_passed, unreached, called_out, answered, heard, answered_passed, entered, entered_exiting}
+use Rattle.tcl_core.specs.Execution.Executes.{completed, exited, acted, refused, went, passed, wrapped, wrapped_passed, too_deep, shut, called, called_passed, unreached, called_out, answered, heard, missed, answered_passed, entered, entered_exiting, unfound}
 use Rattle.tcl_core.specs.Lives.{Uncut, begun, ended, ending_of, outs_of}
 use Rattle.tcl_core.specs.Lives.Outcome.{Finished}
 use Rattle.tcl_core.proofs.Beginnings.{outs_append}
 use Rattle.tcl_core.proofs.Following.{handed, allowed, handed-append, allowed-append}
 use Rattle.tcl_core.proofs.Unended.{NotCut}
-use Rattle.tcl_reactions.specs.Playing.{Answers, Fate, HandsIn, IsCut, IsEnd, IsNoCut, Player, last_end, past, plays, reading, telling}
+use Rattle.tcl_reactions.specs.Playing.{Answers, Fate, HandsIn, IsCut, IsEnd, IsNoCut, Player, last_end, past, plays, reading, telling, FindsNobody}
 use Rattle.tcl_reactions.specs.Playing.Answers.{reads, ends, waits, unfits, passes}
 use Rattle.tcl_reactions.proofs.Ways.{Calm, Way, begun_append, ended_append, outcome_append, tells_on, tells_over, uncut_append}
+use Rattle.tcl_reactions.proofs.Ways.{fits_end}
 
 pub not_some : {A B : Type 0} (o : Option A) (x : A) → o ≡ None → o ≡ Some x → B
 not_some o x e f = absurd (bad e f)
@@ -32,6 +33,7 @@ not_some o x e f = absurd (bad e f)
 
 pub cut_of : (b : Answer) → IsCut b → (c : Cause) × (b ≡ Replied (Cut c))
 cut_of (Heard a) f = absurd f
+cut_of Nobody f = absurd f
 cut_of (Replied (Completed c)) f = absurd f
 cut_of (Replied (Stop n m)) f = absurd f
 cut_of (Replied (Exit n)) f = absurd f
@@ -45,6 +47,7 @@ reply_no_cut (Cut c) f = f
 
 back_uncut : (O : Type 0) (p : Place) (h : Height) (a : Answer) → IsNoCut a → Uncut {O = O} p (Back h a)
 back_uncut O p h (Heard x) f = tt
+back_uncut O p h Nobody f = tt
 back_uncut O p h (Replied (Completed c)) f = tt
 back_uncut O p h (Replied (Stop n m)) f = tt
 back_uncut O p h (Replied (Exit n)) f = tt
@@ -64,8 +67,8 @@ calm_ending (Exit n) f = f
 
 module _ {O : Type 0} where
   -- WHAT PASSES THE TOP
-  pub answers_at : (T : Tree O) (s : Wait) (p : Place) (h : Height) (a : Answer) (o u : Player O) → rise_to h p ≡ None → Crossings plays T o s (event p (Back h a)) u → Answers T o s a u
-  answers_at T s p h a o u e c = subst (λ l. past l o u (Answers T o s a u)) e c.told
+  pub answers_at : (T : Tree O) (s : Wait) (p : Place) (h : Height) (a : Answer) (o u : Player O) → rise_to h p ≡ None → Crossings plays T o s (event p (Back h a)) u → Answers T p o s a u
+  answers_at T s p h a o u e c = subst (λ l. past l o u (Answers T p o s a u)) e c.told
 
   pub back_way : (p : Place) (h : Height) (a : Answer) (o u : Player O) (ms : List (Move O)) → rise_to h p ≡ None → o.fate ≡ None → o.left ≡ Come a ∷ ms → IsNoCut a → u ≡ reading o ms → Way 0 o (event p (Back h a) ∷ []) u
   back_way p h a o u ms e n l f q = record {
@@ -122,6 +125,22 @@ module _ {O : Type 0} where
   pub done_end : (t : Path) (y : Reply) (o u : Player O) → u ≡ telling o (event t (Done None y)) → last_end u ≡ ending_of y
   done_end t y o u q = ap last_end q ∙ outcome_append o.outs (event t (Done None y) ∷ []) Finished
 
+  -- an entry that finds nobody
+  pub unfound_way : (t : Path) (i : Entry) (c : Completion) (o u : Player O) → FindsNobody o t i c u → Way 0 o (event [] (Unfound t i c) ∷ []) u
+  unfound_way t i c o u (o1, h, q) =
+      let r : o1 ≡ reading o o1.left = h.2 in
+      record {
+        moves = h.1 ∙ ap (λ z. Enter t i ∷ z.left) (sym q);
+        steps = ap (λ z. Budget z.steps) (sym r) ∙ ap (λ z. Budget z.steps) (sym q);
+        outs = ap (λ z. z.outs) q ∙ ap (λ z. z.outs ++ event t (Done None (Completed c)) ∷ []) r;
+        goes_on = ap (λ z. z.fate) q ∙ ap (λ z. z.fate) r ∙ h.0;
+        uncut = (tt, tt);
+        owed = refl;
+      }
+
+  pub unfound_end : (t : Path) (i : Entry) (c : Completion) (o u : Player O) → FindsNobody o t i c u → last_end u ≡ Finished
+  unfound_end t i c o u (o1, h, q) = done_end t (Completed c) o1 u q
+
   pub done_on : (T : Tree O) (t : Path) (y : Reply) (o u : Player O) → Crossings plays T o None (event t (Done None y)) u → o.fate ≡ None → u ≡ telling o (event t (Done None y))
   done_on T t y o u c n = tells_on o.fate o u (event t (Done None y)) n c.told
 
@@ -131,15 +150,15 @@ module _ {O : Type 0} where
 module _ {O I : Type 0} (prog : Table O I) where
   -- once the playing is over, an open call is ended at once
   abbrev pub After : Tree O → Player O → Prog O I → Tree O → Player O → Reply → Type 0
-  After T o (wait s k) V z r = (f : Fate O) → o.fate ≡ Some f → (V ≡ T) × (z ≡ o) × IsEnd (Replied r) × (fits {O = O} s (Come (Replied r)) ≡ true)
+  After T o (wait s k) V z r = (f : Fate O) → o.fate ≡ Some f → (V ≡ T) × (z ≡ o) × IsEnd (Replied r) × (fits T [] s (Come (Replied r)) ≡ true)
   After T o x V z r = Unit {0}
 
-  pub ended_at_once : {A : Type 0} (T : Tree O) (o u : Player O) (s : Wait) (a : Answer) (f : Fate O) → Answers T o s a u → o.fate ≡ Some f → (u ≡ o → IsEnd a → A) → A
-  ended_at_once T o u s a f (reads ms n l e c q) g k = not_some o.fate f n g
-  ended_at_once T o u s a f (ends b ms n l e c d q) g k = not_some o.fate f n g
-  ended_at_once T o u s a f (waits n l d q) g k = not_some o.fate f n g
-  ended_at_once T o u s a f (unfits m ms n l e d q) g k = not_some o.fate f n g
-  ended_at_once T o u s a f (passes h n d q) g k = k q d
+  pub ended_at_once : {A : Type 0} (T : Tree O) (p : Place) (o u : Player O) (s : Wait) (a : Answer) (f : Fate O) → Answers T p o s a u → o.fate ≡ Some f → (u ≡ o → IsEnd a → A) → A
+  ended_at_once T p o u s a f (reads ms n l e c q) g k = not_some o.fate f n g
+  ended_at_once T p o u s a f (ends b ms n l e c d q) g k = not_some o.fate f n g
+  ended_at_once T p o u s a f (waits n l d q) g k = not_some o.fate f n g
+  ended_at_once T p o u s a f (unfits m ms n l e d q) g k = not_some o.fate f n g
+  ended_at_once T p o u s a f (passes h n d q) g k = k q d
 
   pub after_end : {T : Tree O} {o : Player O} {p : Place} {x : Prog O I} {V : Tree O} {z : Player O} {r : Reply} → Executes (Crossings plays) prog T o p x V z r → After T o x V z r
   after_end (completed) = tt
@@ -156,8 +175,10 @@ module _ {O I : Type 0} (prog : Table O I) where
   after_end (called_passed a t e there s1 s2 m s3 so q s4) = tt
   after_end (unreached a e there s1 s2 t) = tt
   after_end (called_out e s t) = tt
-  after_end (answered {T} {V} {o} {u} {z} {p} {s} {k} {c} {r} e fit st t) = λ f g. ended_at_once T o u s (Replied (Completed c)) f (answers_at T s p (height_of s) (Replied (Completed c)) o u e st) g (λ q d. absurd d)
-  after_end (heard {T} {V} {o} {u} {z} {p} {s} {k} {a} {r} e fit st t) = λ f g. ended_at_once T o u s (Heard a) f (answers_at T s p (height_of s) (Heard a) o u e st) g (λ q d. absurd d)
-  after_end (answered_passed {T} {o} {u} {p} {s} {k} {r} q e fit st) = λ f g. ended_at_once T o u s (Replied r) f (answers_at T s p (height_of s) (Replied r) o u e st) g (λ q2 d. (refl, q2, d, fit))
-  after_end (entered {T} {U} {V} {o} {o1} {o2} {o3} {z} {p} {s} {k} {y} {r} t i e s1 a s2 n b) = λ f g. not_some o.fate f s1.told.0 g
-  after_end (entered_exiting {T} {U} {o} {o1} {o2} {o3} {o4} {p} {c} {k} {n} t i e s1 a s2 s3) = λ f g. not_some o.fate f s1.told.0 g
+  after_end (answered {T} {V} {o} {u} {z} {p} {s} {k} {c} {r} e fit st t) = λ f g. ended_at_once T p o u s (Replied (Completed c)) f (answers_at T s p (height_of s) (Replied (Completed c)) o u e st) g (λ q d. absurd d)
+  after_end (heard {T} {V} {o} {u} {z} {p} {s} {k} {a} {r} e fit st t) = λ f g. ended_at_once T p o u s (Heard a) f (answers_at T s p (height_of s) (Heard a) o u e st) g (λ q d. absurd d)
+  after_end (missed {T} {V} {o} {u} {z} {p} {s} {k} {r} e fit st t) = λ f g. ended_at_once T p o u s Nobody f (answers_at T s p (height_of s) Nobody o u e st) g (λ q d. absurd d)
+  after_end (answered_passed {T} {o} {u} {p} {s} {k} {r} q e fit st) = λ f g. ended_at_once T p o u s (Replied r) f (answers_at T s p (height_of s) (Replied r) o u e st) g (λ q2 d. (refl, q2, d, fits_end O T T p [] s (Replied r) fit r d))
+  after_end (entered {o = o} t i e here s1 a s2 n b) = λ f g. not_some o.fate f s1.told.0 g
+  after_end (entered_exiting {o = o} t i e here s1 a s2 s3) = λ f g. not_some o.fate f s1.told.0 g
+  after_end (unfound {o = o} t i e here s1 b) = λ f g. not_some o.fate f s1.told.1.0 g

@@ -1,37 +1,40 @@
 -- A run that waits for an answer, where each call that is open is ended from outside.
+use Rattle.tcl_core.proofs.Callers.{or_lost_all}
 use Rattle.std.proofs.Common.{◌≡◌, ◌⊎◌, inl, inr, ℕ, zero, suc, ◌+◌, ℤ, Bool, true, false, List, [], ◌∷◌, ◌++◌, Option, Some, None, length, refl, sym, ◌∙◌, ap, subst, arith, append_assoc, append-nil}
 use Rattle.tcl_core.specs.Paths.{Path, Place, Height, rise_to}
-use Rattle.tcl_core.specs.Endings.{Completion, Meter, Reply, refusal}
+use Rattle.tcl_core.specs.Endings.{Completion, IsQuit, Meter, Reply, refusal}
 use Rattle.tcl_core.specs.Endings.Meter.{Count, Depth}
+use Rattle.tcl_core.specs.Endings.Kind.{Full}
 use Rattle.tcl_core.specs.Endings.Reply.{Completed, Stop, Exit, Cut}
 use Rattle.tcl_core.specs.Endings.Cause.{Above}
 use Rattle.tcl_core.specs.Entries.{Entry, Said}
 use Rattle.tcl_core.specs.Entries.Answer.{Replied}
-use Rattle.tcl_core.specs.Entries.Said.{Finished, Told}
+use Rattle.tcl_core.specs.Entries.Said.{Finished, Told, Missed}
 use Rattle.tcl_core.specs.Execution.{event}
 use Rattle.tcl_core.specs.Lives
 use Rattle.tcl_core.specs.Lives.{begun, begun_at, copies, ended, ended_at, idle, never}
-use Rattle.tcl_core.specs.Programs.{Act, Calls_only, Deed, Prog, Table, Wait, Wrap, blocked, closes, decide, is_deep, is_spent, metered, opens, spot}
+use Rattle.tcl_core.specs.Programs.{Act, Calls_only, Deed, Prog, Table, Wait, Wrap, blocked, closes, decide, is_deep, is_spent, metered, opens, spot, or_lost}
 use Rattle.tcl_core.specs.Programs.Act.{Look, Change, Charge, Limit, LimitDepth, Make, Drop}
 use Rattle.tcl_core.specs.Programs.Prog.{done, exit, act, go, inside, call, wait}
 use Rattle.tcl_core.specs.Programs.Wrap.{Deeper, Framed}
 use Rattle.tcl_core.specs.Rules.{Derives, IsNoExit}
-use Rattle.tcl_core.specs.Rules.Derives.{completed, exited, acted, refused, unheard, went, passed, halted, wrapped, wrapped_passed, wrapped_halted, too_deep, shut, unheard_inside, called, called_passed, called_halted, unreached, called_out, unanswered, unfit, answered, heard, answered_passed, entered, entered_halted, entered_exiting, born, fallen}
-use Rattle.tcl_core.specs.Runs.{Ending, Exiting, Exits, RunsIn, Stays, Step, Waits, World, ends_call, entering, fits, height_of, reached}
-use Rattle.tcl_core.specs.Trees.{Event, Grants, Move, Node, Tree, What, at, effect, granted}
+use Rattle.tcl_core.specs.Rules.Derives.{completed, exited, acted, refused, unheard, went, passed, halted, wrapped, wrapped_passed, wrapped_halted, too_deep, shut, unheard_inside, called, called_passed, called_halted, unreached, called_out, unanswered, unfit, answered, heard, missed, answered_passed, entered, entered_halted, entered_exiting, born, fallen, unfound}
+use Rattle.tcl_core.specs.Runs
+use Rattle.tcl_core.specs.Runs.{Ending, Exiting, Exits, RunsIn, Stays, Step, Waits, World, ends_call, fits, height_of, reached, returned, Enters}
+use Rattle.tcl_core.specs.Trees.{Event, Grants, Move, Node, Tree, What, at, depth_of, effect, granted}
 use Rattle.tcl_core.specs.Trees.Grants.{Budget}
 use Rattle.tcl_core.specs.Trees.Move.{Born, Fall, Enter, Come}
-use Rattle.tcl_core.specs.Trees.What.{Made, Dropped, Out, In, Done, Back}
+use Rattle.tcl_core.specs.Trees.What.{Made, Dropped, Out, In, Done, Back, Unfound}
 use Rattle.tcl_core.proofs.Balance.{Owes, dones, ins, owes}
-use Rattle.tcl_core.proofs.Callers.{entering_calls}
 use Rattle.tcl_core.proofs.Keeping.{KeepsSteps, derived_keep}
 use Rattle.tcl_core.proofs.LifeMoves.{not_cons}
 use Rattle.tcl_core.proofs.MoreMoves.{none_not}
 use Rattle.tcl_core.proofs.Parting.{back_reads, back_silent, closes_silent}
-use Rattle.tcl_core.proofs.TreeLaws.{reached_at}
+use Rattle.tcl_core.proofs.TreeLaws.{any_close, reached_at}
 use Rattle.tcl_core.proofs.PathLaws.{not_both, rise_back}
 use Rattle.tcl_core.proofs.Plain.{IsPlain, closes_plain, decide_plain, opens_plain}
 use Rattle.tcl_core.proofs.Reacting.{exits_idle}
+use Rattle.tcl_core.proofs.Refusals.{carried_is}
 use Rattle.tcl_core.proofs.RuleLaws.{runs_derived}
 use Rattle.tcl_reactions.proofs.Before.{begun_ins, ended_dones}
 use Rattle.tcl_reactions.proofs.Exiting.{IsExit}
@@ -130,10 +133,8 @@ module _ {O : Type 0} where
   opens_budgeted Deeper T p n e = metered_budget Depth Rattle.tcl_core.specs.Trees.What.Nested (blocked is_deep T p) n e
   opens_budgeted (Framed o back) T p n e = absurd (not_both e refl)
 
-  closes_granted : (p : Place) (b : Wrap O) (n : Option (Node O)) (gs : Grants) → gs ≡ granted p (closes b n) gs
-  closes_granted p Deeper n gs = refl
-  closes_granted p (Framed o back) None gs = refl
-  closes_granted p (Framed o back) (Some n) gs = refl
+  closes_granted : (p : Place) (b : Wrap O) (m n : Option (Node O)) (gs : Grants) → gs ≡ granted p (closes b m n) gs
+  closes_granted p b m n gs = any_close (λ x. gs ≡ granted p x gs) b m n refl refl (λ o. refl)
 
   -- the end of a call from outside
   abbrev pub ending : Move O
@@ -162,10 +163,15 @@ module _ {O I : Type 0} where
   goes_on None k a f = absurd f
   goes_on (Some c) k a f = f a
 
-  may_end : (s : Wait) (k : Said → Prog O I) → Calling (wait s k) → fits {O = O} s (ending {O = O}) ≡ true
-  may_end None k f = absurd f
-  may_end (Some (None, i)) k f = refl
-  may_end (Some (Some h, i)) k f = refl
+  may_end : (T : Tree O) (p : Place) (s : Wait) (k : Said → Prog O I) → Calling (wait s k) → fits T p s (ending {O = O}) ≡ true
+  may_end T p None k f = absurd f
+  may_end T p (Some (h, i, d)) k f = by (Runs.gone d T p) h
+    where
+      by : (g : Option ℕ) (h : Height) → Runs.is_told g h i (Replied (Cut Above)) ≡ true
+      by None None = refl
+      by None (Some h) = refl
+      by (Some l) None = refl
+      by (Some l) (Some h) = refl
 
 module _ {O I : Type 0} (prog : Table O I) where
   -- How a run goes on that waits with so many entries in progress in it: the call that is open is ended from outside, and so are all
@@ -213,7 +219,7 @@ module _ {O I : Type 0} (prog : Table O I) where
     owes_so = let a : begun w.tape ≡ 0 = ap begun t in let b : ended w.tape ≡ 0 = ap ended t in let e : begun w.tape ≡ ended w.tape + 0 = omega arith in e;
     runs =
         λ ms τ.
-        answered_passed (longer w (ending ∷ ms) (event p (Back (height_of s) (Replied (Cut Above))) ∷ τ)) p s k (Cut Above) (placed w.tree ms w.grants τ) tt f (may_end s k c)
+        answered_passed (longer w (ending ∷ ms) (event p (Back (height_of s) (Replied (Cut Above))) ∷ τ)) p s k (Cut Above) (placed w.tree ms w.grants τ) tt f (may_end w.tree p s k c)
         (record { tape = ap (λ l. l ++ event p (Back (height_of s) (Replied (Cut Above))) ∷ τ) t; tree = refl; moves = ap (λ l. l ++ ending ∷ ms) m ∙ back_reads prog p (height_of s) (Replied (Cut Above)) f ms; grants = refl });
   }
 
@@ -229,18 +235,18 @@ module _ {O I : Type 0} (prog : Table O I) where
         subst (λ l. Derives prog (longer w (copies (suc a.count) ending ++ ms) l) p (inside b i k) (placed U ms gs τ) (Some (Cut Above))) (sym (append_assoc a.events (back ∷ []) τ))
         (wrapped_passed (longer w (copies (suc a.count) ending ++ ms) (a.events ++ back ∷ τ)) p b i k x (longer inner (copies (suc a.count) ending ++ ms) (a.events ++ back ∷ τ)) (placed a.tree ms gs (back ∷ τ)) (placed U ms gs τ) (Cut Above) tt g on
         (st (copies (suc a.count) ending ++ ms) (a.events ++ back ∷ τ) w (spot p x.0) x.1 inner s) (a.runs ms (back ∷ τ))
-        (record { tape = refl; tree = refl; moves = sym (closes_silent p b (a.tree p) ms); grants = closes_granted p b (a.tree p) gs }));
+        (record { tape = refl; tree = refl; moves = sym (closes_silent p b (inner.tree p) (a.tree p) ms); grants = closes_granted p b (inner.tree p) (a.tree p) gs }));
   }
     where
       back : Event O
-      back = event p (closes b (a.tree p))
+      back = event p (closes b (inner.tree p) (a.tree p))
 
       U : Tree O
-      U = effect p (closes b (a.tree p)) a.tree
+      U = effect p (closes b (inner.tree p) (a.tree p)) a.tree
 
   -- an entry is ended, and so is the call in which it came in
-  ending_entry : (w inner : World O) (p : Place) (s : Wait) (k : Said → Prog O I) (t : Path) (i : Entry) (gs : Grants) → rise_to (height_of s) p ≡ None → Calling (wait s k) → Step w t (In None i) inner → Unwound inner t (entering prog (w.tree t) i) gs → Unwound w p (wait s k) gs
-  ending_entry w inner p s k t i gs f c s1 a = record {
+  ending_entry : (w inner : World O) (p : Place) (s : Wait) (k : Said → Prog O I) (t : Path) (i : Entry) (gs : Grants) {node : Node O} → rise_to (height_of s) p ≡ None → w.tree t ≡ Some node → Calling (wait s k) → Step w t (In None i) inner → Unwound inner t (prog.entry i) gs → Unwound w p (wait s k) gs
+  ending_entry w inner p s k t i gs f here c s1 a = record {
     count = suc a.count;
     events = a.events ++ gone ∷ back ∷ [];
     tree = a.tree;
@@ -254,9 +260,9 @@ module _ {O I : Type 0} (prog : Table O I) where
         λ ms τ.
         subst (λ l. Derives prog (longer w (copies (suc (suc a.count)) ending ++ ms) l) p (wait s k) (placed a.tree ms gs τ) (Some (Cut Above))) (sym (append_assoc a.events (gone ∷ back ∷ []) τ))
         (subst (λ l. Derives prog (longer w l (a.events ++ gone ∷ back ∷ τ)) p (wait s k) (placed a.tree ms gs τ) (Some (Cut Above))) (sym (copies_last (Move O) (suc a.count) ending ms))
-        (entered (longer w (moves ms) (a.events ++ gone ∷ back ∷ τ)) p s k t i (longer inner (moves ms) (a.events ++ gone ∷ back ∷ τ)) (placed a.tree (ending ∷ ms) gs (gone ∷ back ∷ τ)) (placed a.tree (ending ∷ ms) gs (back ∷ τ)) (placed a.tree ms gs τ) (Cut Above) (Some (Cut Above)) f
+        (entered (longer w (moves ms) (a.events ++ gone ∷ back ∷ τ)) p s k t i (longer inner (moves ms) (a.events ++ gone ∷ back ∷ τ)) (placed a.tree (ending ∷ ms) gs (gone ∷ back ∷ τ)) (placed a.tree (ending ∷ ms) gs (back ∷ τ)) (placed a.tree ms gs τ) (Cut Above) (Some (Cut Above)) f here
         (st (moves ms) (a.events ++ gone ∷ back ∷ τ) w t (In None i) inner s1) (a.runs (ending ∷ ms) (gone ∷ back ∷ τ)) (record { tape = refl; tree = refl; moves = refl; grants = refl }) tt
-        (answered_passed (placed a.tree (ending ∷ ms) gs (back ∷ τ)) p s k (Cut Above) (placed a.tree ms gs τ) tt f (may_end s k c)
+        (answered_passed (placed a.tree (ending ∷ ms) gs (back ∷ τ)) p s k (Cut Above) (placed a.tree ms gs τ) tt f (may_end a.tree p s k c)
         (record { tape = refl; tree = refl; moves = back_reads prog p (height_of s) (Replied (Cut Above)) f ms; grants = refl }))));
   }
     where
@@ -271,7 +277,7 @@ module _ {O I : Type 0} (prog : Table O I) where
 
   -- a call within the tree is ended
   ending_call : (w out inner : World O) (p a0 t : Place) (h : Height) (down : Path) (i : Entry) (lost : Completion) (k : Said → Prog O I) (gs : Grants) → rise_to h p ≡ Some a0 → Step w p (Out h down i) out → reached out.tree a0 down ≡ Some t → Step out t (In (Some (length down)) i) inner →
-      Unwound inner t (entering prog (out.tree t) i) gs → Unwound w p (call h down i lost k) gs
+      Unwound inner t (prog.entry i) gs → Unwound w p (call h down i lost k) gs
   ending_call w out inner p a0 t h down i lost k gs f s1 g s2 a = record {
     count = a.count;
     events = a.events ++ gone ∷ back ∷ [];
@@ -285,17 +291,24 @@ module _ {O I : Type 0} (prog : Table O I) where
     runs =
         λ ms τ.
         subst (λ l. Derives prog (longer w (copies (suc a.count) ending ++ ms) l) p (call h down i lost k) (placed a.tree ms gs τ) (Some (Cut Above))) (sym (append_assoc a.events (gone ∷ back ∷ []) τ))
+        (subst (λ r. Derives prog (longer w (copies (suc a.count) ending ++ ms) (a.events ++ gone ∷ back ∷ τ)) p (call h down i lost k) (placed a.tree ms gs τ) (Some r)) passes
         (called_passed (longer w (copies (suc a.count) ending ++ ms) (a.events ++ gone ∷ back ∷ τ)) p h down i lost k a0 t (longer out (copies (suc a.count) ending ++ ms) (a.events ++ gone ∷ back ∷ τ)) (longer inner (copies (suc a.count) ending ++ ms) (a.events ++ gone ∷ back ∷ τ))
         (placed a.tree ms gs (gone ∷ back ∷ τ)) (placed a.tree ms gs (back ∷ τ)) (placed a.tree ms gs τ) (Cut Above) f (st (copies (suc a.count) ending ++ ms) (a.events ++ gone ∷ back ∷ τ) w p (Out h down i) out s1) g
-        (st (copies (suc a.count) ending ++ ms) (a.events ++ gone ∷ back ∷ τ) out t (In (Some (length down)) i) inner s2) (a.runs ms (gone ∷ back ∷ τ)) (record { tape = refl; tree = refl; moves = refl; grants = refl }) tt
-        (record { tape = refl; tree = refl; moves = sym (back_silent prog p a0 h (Replied (Cut Above)) f ms); grants = refl }));
+        (st (copies (suc a.count) ending ++ ms) (a.events ++ gone ∷ back ∷ τ) out t (In (Some (length down)) i) inner s2) (a.runs ms (gone ∷ back ∷ τ)) (record { tape = refl; tree = refl; moves = refl; grants = refl }) (subst IsQuit (sym passes) tt)
+        (record { tape = refl; tree = refl; moves = sym (back_silent prog p a0 h (Replied told_so) f ms); grants = refl })));
   }
     where
       gone : Event O
       gone = event t (Done (Some (length down)) (Cut Above))
 
+      told_so : Reply
+      told_so = returned out.tree a.tree h p down (Cut Above)
+
+      passes : told_so ≡ Cut Above
+      passes = carried_is (Runs.gone (depth_of (out.tree p)) a.tree p) h p down (Cut Above) Above refl
+
       back : Event O
-      back = event p (Back h (Replied (Cut Above)))
+      back = event p (Back h (Replied told_so))
 
       within : rise_to (Some (length down)) t ≡ Some a0
       within = subst (λ z. rise_to (Some (length down)) z ≡ Some a0) (sym (reached_at (out.tree (a0 ++ down)) t (a0 ++ down) g)) (rise_back a0 down)
@@ -342,13 +355,13 @@ module _ {O I : Type 0} (prog : Table O I) where
   unwinding n (unheard_inside w p l i y g t) q m b f z = opens_budgeted l w.tree p n (ap (opens l w.tree p) (sym b) ∙ g)
   unwinding n (wrapped w p l i y x inner left closed v c e g on2 s a t d) q m b f z =
       on w closed p p (inside l i y) (y c) v.grants
-      (balanced_then w inner closed (plain_balanced w (spot p x.0) x.1 inner s (opens_plain l w.tree p w.grants x g)) (balanced_then inner left closed (run_balanced a) (plain_balanced left p (closes l (left.tree p)) closed t (closes_plain l (left.tree p)))))
-      (unwinding n d q m b (calling (y c) (f c)) (after_step left p (closes l (left.tree p)) closed t (later a (after_step w (spot p x.0) x.1 inner s z))))
-      (λ ms τ o r. wrapped (longer w ms τ) p l i y x (longer inner ms τ) (longer left ms τ) (longer closed ms τ) o c (Some (Cut Above)) g on2 (st ms τ w (spot p x.0) x.1 inner s) (ex ms τ a) (st ms τ left p (closes l (left.tree p)) closed t) r)
+      (balanced_then w inner closed (plain_balanced w (spot p x.0) x.1 inner s (opens_plain l w.tree p w.grants x g)) (balanced_then inner left closed (run_balanced a) (plain_balanced left p (closes l (inner.tree p) (left.tree p)) closed t (closes_plain l (inner.tree p) (left.tree p)))))
+      (unwinding n d q m b (calling (y c) (f c)) (after_step left p (closes l (inner.tree p) (left.tree p)) closed t (later a (after_step w (spot p x.0) x.1 inner s z))))
+      (λ ms τ o r. wrapped (longer w ms τ) p l i y x (longer inner ms τ) (longer left ms τ) (longer closed ms τ) o c (Some (Cut Above)) g on2 (st ms τ w (spot p x.0) x.1 inner s) (ex ms τ a) (st ms τ left p (closes l (inner.tree p) (left.tree p)) closed t) r)
   unwinding n (wrapped_passed w p l i y x inner left closed r k g on2 s a t) q m b f z = some_none r q
   unwinding n (wrapped_halted w p l i y x inner left g on2 s a) q m b f z = closing w inner p l i y x left.grants g on2 s (unwinding n a refl m b (calling (prog.program i) (prog.programs_call i)) (after_step w (spot p x.0) x.1 inner s z))
   unwinding n (too_deep w p l i y x u v e g deep s a) q m b f z =
-      on w u p p (inside l i y) (y (refusal Depth)) v.grants (plain_balanced w (spot p x.0) x.1 u s (opens_plain l w.tree p w.grants x g)) (unwinding n a q m b (calling (y (refusal Depth)) (f (refusal Depth))) (after_step w (spot p x.0) x.1 u s z))
+      on w u p p (inside l i y) (y (refusal (Full Depth))) v.grants (plain_balanced w (spot p x.0) x.1 u s (opens_plain l w.tree p w.grants x g)) (unwinding n a q m b (calling (y (refusal (Full Depth))) (f (refusal (Full Depth)))) (after_step w (spot p x.0) x.1 u s z))
       (λ ms τ o r. too_deep (longer w ms τ) p l i y x (longer u ms τ) o (Some (Cut Above)) g deep (st ms τ w (spot p x.0) x.1 u s) r)
   unwinding n (shut w p l i y x r u g off s) q m b f z = some_none r q
   unwinding n (called w p h down i lost y a0 t out inner left told back v r c e g s1 j s2 x s3 so s4 d) q m b f z =
@@ -358,13 +371,13 @@ module _ {O I : Type 0} (prog : Table O I) where
       (λ ms τ o k. called (longer w ms τ) p h down i lost y a0 t (longer out ms τ) (longer inner ms τ) (longer left ms τ) (longer told ms τ) (longer back ms τ) o r c (Some (Cut Above)) g (st ms τ w p _ out s1) j (st ms τ out t _ inner s2) (ex ms τ x) (st ms τ left t _ told s3) so (st ms τ told p _ back s4) k)
   unwinding n (called_passed w p h down i lost y a0 t out inner left told back r g s1 j s2 x s3 k s4) q m b f z = some_none _ q
   unwinding n (called_halted w p h down i lost y a0 t out inner left g s1 j s2 x) q m b f z =
-      ending_call w out inner p a0 t h down i lost y left.grants g s1 j s2 (unwinding n x refl m b (calling (entering prog (out.tree t) i) (entering_calls prog (out.tree t) i)) (after_step out t _ inner s2 (after_step w p _ out s1 z)))
+      ending_call w out inner p a0 t h down i lost y left.grants g s1 j s2 (unwinding n x refl m b (calling (prog.entry i) (prog.entries_call i)) (after_step out t _ inner s2 (after_step w p _ out s1 z)))
   unwinding n (unreached w p h down i lost y a0 out back v e g s1 j s2 x) q m b f z =
       on w back p p (call h down i lost y) (y (Finished lost)) v.grants (balanced_then w out back (step_balanced w p (Out h down i) out s1 (λ k. refl) (λ k. refl)) (step_balanced out p _ back s2 (λ k. refl) (λ k. refl)))
       (unwinding n x q m b (calling (y (Finished lost)) (f (Finished lost))) (after_step out p _ back s2 (after_step w p _ out s1 z)))
       (λ ms τ o k. unreached (longer w ms τ) p h down i lost y a0 (longer out ms τ) (longer back ms τ) o (Some (Cut Above)) g (st ms τ w p _ out s1) j (st ms τ out p _ back s2) k)
   unwinding n (called_out w p h down i lost y u v e g s a) q m b f z =
-      on w u p p (call h down i lost y) (wait (Some (h, i)) y) v.grants (step_balanced w p (Out h down i) u s (λ k. refl) (λ k. refl)) (unwinding n a q m b f (after_step w p _ u s z))
+      on w u p p (call h down i lost y) (wait (Some (h, i, depth_of (u.tree p))) (or_lost lost y)) v.grants (step_balanced w p (Out h down i) u s (λ k. refl) (λ k. refl)) (unwinding n a q m b (or_lost_all Calls_only lost y f) (after_step w p _ u s z))
       (λ ms τ o k. called_out (longer w ms τ) p h down i lost y (longer u ms τ) o (Some (Cut Above)) g (st ms τ w p _ u s) k)
   unwinding n (unanswered w p s y g j t) q m b f z = ends_here w p s y g f j t
   unwinding n (unfit w p s y a ms g j h t) q m b f z = no_moves w a ms m j
@@ -374,15 +387,20 @@ module _ {O I : Type 0} (prog : Table O I) where
   unwinding n (heard w p s y x u v e g j t a) q m b f z =
       on w u p p (wait s y) (y (Told x)) v.grants (step_balanced w p _ u t (λ k. refl) (λ k. refl)) (unwinding n a q m b (calling (y (Told x)) (goes_on s y (Told x) f)) (after_step w p _ u t z))
       (λ ms τ o k. heard (longer w ms τ) p s y x (longer u ms τ) o (Some (Cut Above)) g j (st ms τ w p _ u t) k)
+  unwinding n (missed w p s y u v e g j t a) q m b f z =
+      on w u p p (wait s y) (y Missed) v.grants (step_balanced w p _ u t (λ k. refl) (λ k. refl)) (unwinding n a q m b (calling (y Missed) (goes_on s y Missed f)) (after_step w p _ u t z))
+      (λ ms τ o k. missed (longer w ms τ) p s y (longer u ms τ) o (Some (Cut Above)) g j (st ms τ w p _ u t) k)
   unwinding n (answered_passed w p s y r u l g j t) q m b f z = some_none r q
-  unwinding n (entered w p s y t i inner left told v r e g s1 x s2 l a) q m b f z =
+  unwinding n (entered w p s y t i inner left told v r e g here s1 x s2 l a) q m b f z =
       on w told p p (wait s y) (wait s y) v.grants (visit_balanced w inner left told None t i r s1 (run_balanced x) s2) (unwinding n a q m b f (after_step left t _ told s2 (later x (after_step w t _ inner s1 z))))
-      (λ ms τ o k. entered (longer w ms τ) p s y t i (longer inner ms τ) (longer left ms τ) (longer told ms τ) o r (Some (Cut Above)) g (st ms τ w t _ inner s1) (ex ms τ x) (st ms τ left t _ told s2) l k)
-  unwinding n (entered_halted w p s y t i inner left g s1 x) q m b f z =
-      ending_entry w inner p s y t i left.grants g f s1 (unwinding n x refl m b (calling (entering prog (w.tree t) i) (entering_calls prog (w.tree t) i)) (after_step w t _ inner s1 z))
-  unwinding n (entered_exiting w p s y t i inner left told v l e g s1 x s2 a) q m b f z = exit_not_last left told t l (later x (after_step w t _ inner s1 z)) s2 (exits_end told p s l told.moves v e q a)
+      (λ ms τ o k. entered (longer w ms τ) p s y t i (longer inner ms τ) (longer left ms τ) (longer told ms τ) o r (Some (Cut Above)) g here (st ms τ w t _ inner s1) (ex ms τ x) (st ms τ left t _ told s2) l k)
+  unwinding n (entered_halted w p s y t i inner left g here s1 x) q m b f z =
+      ending_entry w inner p s y t i left.grants g here f s1 (unwinding n x refl m b (calling (prog.entry i) (prog.entries_call i)) (after_step w t _ inner s1 z))
+  unwinding n (entered_exiting w p s y t i inner left told v l e g here s1 x s2 a) q m b f z = exit_not_last left told t l (later x (after_step w t _ inner s1 z)) s2 (exits_end told p s l told.moves v e q a)
   unwinding n (born w p s y o c u v e g t a) q m b f z =
       on w u p p (wait s y) (wait s y) v.grants (step_balanced w [] _ u t (λ k. refl) (λ k. refl)) (unwinding n a q m b f (after_step w [] _ u t z)) (λ ms τ j k. born (longer w ms τ) p s y o c (longer u ms τ) j (Some (Cut Above)) g (st ms τ w [] _ u t) k)
+  unwinding n (unfound w p s y t i u v e g here s1 a) q m b f z =
+      on w u p p (wait s y) (wait s y) v.grants (step_balanced w [] _ u s1 (λ k. refl) (λ k. refl)) (unwinding n a q m b f (after_step w [] _ u s1 z)) (λ ms τ j k. unfound (longer w ms τ) p s y t i (longer u ms τ) j (Some (Cut Above)) g here (st ms τ w [] _ u s1) k)
   unwinding n (fallen w p s y u v e g t a) q m b f z =
       on w u p p (wait s y) (wait s y) v.grants (step_balanced w [] _ u t (λ k. refl) (λ k. refl)) (unwinding n a q m b f (after_step w [] _ u t z)) (λ ms τ j k. fallen (longer w ms τ) p s y (longer u ms τ) j (Some (Cut Above)) g (st ms τ w [] _ u t) k)
 
@@ -400,16 +418,16 @@ module _ {O I : Type 0} (prog : Table O I) where
   nothing_on : (w : World O) (gs : Grants) → w.tape ≡ [] → Stood w gs
   nothing_on w gs t = quiet (let a : begun w.tape ≡ 0 = ap begun t in let b : ended w.tape ≡ 0 = ap ended t in omega arith)
 
-  entry_on : (w inner : World O) (t : Path) (i : Entry) (gs : Grants) → Step w t (In None i) inner → Unwound inner t (entering prog (w.tree t) i) gs → Stood w gs
-  entry_on w inner t i gs s1 a =
+  entry_on : (w inner : World O) (t : Path) (i : Entry) (gs : Grants) {node : Node O} → w.tree t ≡ Some node → Step w t (In None i) inner → Unwound inner t (prog.entry i) gs → Stood w gs
+  entry_on w inner t i gs here s1 a =
       ends a.count (a.events ++ gone ∷ []) a.tree
       (let b : begun w.tape ≡ suc (begun inner.tape) = ap begun s1.tape in
       let d : ended w.tape ≡ ended inner.tape = ap ended s1.tape in
       let e : begun inner.tape ≡ ended inner.tape + a.count = a.owes_so in
       omega arith)
-      (entered (longer w over (a.events ++ gone ∷ [])) [] idle never t i (longer inner over (a.events ++ gone ∷ [])) (placed a.tree [] gs (gone ∷ [])) (placed a.tree [] gs []) (placed a.tree [] gs []) (Cut Above) None refl
+      (entered (longer w over (a.events ++ gone ∷ [])) [] idle never t i (longer inner over (a.events ++ gone ∷ [])) (placed a.tree [] gs (gone ∷ [])) (placed a.tree [] gs []) (placed a.tree [] gs []) (Cut Above) None refl here
       (st over (a.events ++ gone ∷ []) w t (In None i) inner s1)
-      (subst (λ l. Derives prog (longer inner l (a.events ++ gone ∷ [])) t (entering prog (w.tree t) i) (placed a.tree [] gs (gone ∷ [])) (Some (Cut Above))) (append-nil over) (a.runs [] (gone ∷ [])))
+      (subst (λ l. Derives prog (longer inner l (a.events ++ gone ∷ [])) t (prog.entry i) (placed a.tree [] gs (gone ∷ [])) (Some (Cut Above))) (append-nil over) (a.runs [] (gone ∷ [])))
       (record { tape = refl; tree = refl; moves = refl; grants = refl }) tt (unanswered (placed a.tree [] gs []) [] idle never refl refl refl))
     where
       gone : Event O
@@ -421,8 +439,8 @@ module _ {O I : Type 0} (prog : Table O I) where
   Standing : ℕ → ℕ → Type 0
   Standing k n = (z y : World O) → y.moves ≡ [] → y.grants ≡ Budget k → NoExitLast z → RunsIn prog n z [] (wait idle never) y None → Stood z y.grants
 
-  left_halted : (n : ℕ) (z left : World O) (entered_at : World O) (q : Path) (i : Entry) (k : ℕ) → left.moves ≡ [] → left.grants ≡ Budget k → NoExitLast z → Step z q (In None i) entered_at → Derives prog entered_at q (entering prog (z.tree q) i) left None → Stood z left.grants
-  left_halted n z left inner q i k m b f s d = entry_on z inner q i left.grants s (unwinding k d refl m b (calling (entering prog (z.tree q) i) (entering_calls prog (z.tree q) i)) (after_step z q (In None i) inner s f))
+  left_halted : (n : ℕ) (z left : World O) (entered_at : World O) (q : Path) (i : Entry) (k : ℕ) {node : Node O} → left.moves ≡ [] → left.grants ≡ Budget k → NoExitLast z → z.tree q ≡ Some node → Step z q (In None i) entered_at → Derives prog entered_at q (prog.entry i) left None → Stood z left.grants
+  left_halted n z left inner q i k m b f here s d = entry_on z inner q i left.grants here s (unwinding k d refl m b (calling (prog.entry i) (prog.entries_call i)) (after_step z q (In None i) inner s f))
 
   stays_on : (k n : ℕ) → Standing k n → (u y : World O) (r : Reply) → y.moves ≡ [] → y.grants ≡ Budget k → NoExitLast u → Stays (RunsIn prog n) u [] idle never (Some r) y None → (Stood u y.grants × IsNoExit r) ⊎ (u.tape ≡ [])
   unfolding Standing
@@ -431,15 +449,27 @@ module _ {O I : Type 0} (prog : Table O I) where
   stays_on k n ih u y (Cut c) m b f s = inl (ih u y m b f s, tt)
   stays_on k n ih u y (Exit l) m b f s = inr (exits_idle u l u.moves y s).tape
 
-  entry_past : (z inner left u : World O) (q : Path) (i : Entry) (r : Reply) (gs : Grants) → Step z q (In None i) inner → Derives prog inner q (entering prog (z.tree q) i) left (Some r) → Step left q (Done None r) u → (Stood u gs × IsNoExit r) ⊎ (u.tape ≡ []) → Stood z gs
-  entry_past z inner left u q i r gs s1 d s2 (inl g) =
+  entry_past : (z inner left u : World O) (q : Path) (i : Entry) (r : Reply) (gs : Grants) {node : Node O} → z.tree q ≡ Some node → Step z q (In None i) inner → Derives prog inner q (prog.entry i) left (Some r) → Step left q (Done None r) u → (Stood u gs × IsNoExit r) ⊎ (u.tape ≡ []) → Stood z gs
+  entry_past z inner left u q i r gs here s1 d s2 (inl g) =
       stood_on z u gs (visit_balanced z inner left u None q i r s1 (run_balanced d) s2)
-      (λ ms τ o e. entered (longer z ms τ) [] idle never q i (longer inner ms τ) (longer left ms τ) (longer u ms τ) o r None refl (st ms τ z q (In None i) inner s1) (ex ms τ d) (st ms τ left q (Done None r) u s2) g.1 e) g.0
-  entry_past z inner left u q i r gs s1 d s2 (inr t) =
+      (λ ms τ o e. entered (longer z ms τ) [] idle never q i (longer inner ms τ) (longer left ms τ) (longer u ms τ) o r None refl here (st ms τ z q (In None i) inner s1) (ex ms τ d) (st ms τ left q (Done None r) u s2) g.1 e) g.0
+  entry_past z inner left u q i r gs here s1 d s2 (inr t) =
       quiet (let c : begun z.tape + ended u.tape ≡ ended z.tape + begun u.tape = visit_balanced z inner left u None q i r s1 (run_balanced d) s2 in
       let a : begun u.tape ≡ 0 = ap begun t in
       let b : ended u.tape ≡ 0 = ap ended t in
       omega arith)
+
+  stands_entry : (k n : ℕ) → Standing k n → (z y : World O) → y.moves ≡ [] → y.grants ≡ Budget k → NoExitLast z → (q : Path) (i : Entry) (x : Option (Node O)) → z.tree q ≡ x → Enters prog (RunsIn prog n) z [] idle never q i x y None → Stood z y.grants
+  unfolding Standing
+  stands_entry k n ih z y m b f q i None here (u, st2, h) =
+      stood_on z u y.grants (step_balanced z [] (Unfound q i (prog.lost q)) u st2 (λ j. refl) (λ j. refl)) (λ l τ j d. unfound (longer z l τ) [] idle never q i (longer u l τ) j None refl here (st l τ z [] (Unfound q i (prog.lost q)) u st2) d) (ih u y m b (after_step z [] (Unfound q i (prog.lost q)) u st2 f) h)
+  stands_entry k n ih z y m b f q i (Some x) here (u, None, v, s) =
+      let same : y ≡ v.left = s.0 ∙ v.leaving in
+      subst (λ j. Stood z j.grants) (sym same) (left_halted n z v.left v.entered q i k (ap (λ j. j.moves) (sym same) ∙ m) (ap (λ j. j.grants) (sym same) ∙ b) f here v.entry (runs_derived prog v.entered q (prog.entry i) v.left None (n, v.run)))
+  stands_entry k n ih z y m b f q i (Some x) here (u, Some r, v, s) =
+      let d = runs_derived prog v.entered q (prog.entry i) v.left (Some r) (n, v.run) in
+      let g : NoExitLast u = after_step v.left q (Done None r) u v.leaving (later d (after_step z q (In None i) v.entered v.entry f)) in
+      entry_past z v.entered v.left u q i r y.grants here v.entry d v.leaving (stays_on k n ih u y r m b g s)
 
   stands_next : (k n : ℕ) → Standing k n → (z y : World O) → y.moves ≡ [] → y.grants ≡ Budget k → NoExitLast z → (ms : List (Move O)) → Waits prog (RunsIn prog n) z [] idle never ms y None → Stood z y.grants
   unfolding Standing
@@ -449,13 +479,7 @@ module _ {O I : Type 0} (prog : Table O I) where
       stood_on z u y.grants (step_balanced z [] (Made o s) u st2 (λ j. refl) (λ j. refl)) (λ l τ j d. born (longer z l τ) [] idle never o s (longer u l τ) j None refl (st l τ z [] (Made o s) u st2) d) (ih u y m b (after_step z [] (Made o s) u st2 f) h)
   stands_next k n ih z y m b f (Fall ∷ ms) (u, st2, h) =
       stood_on z u y.grants (step_balanced z [] Dropped u st2 (λ j. refl) (λ j. refl)) (λ l τ j d. fallen (longer z l τ) [] idle never (longer u l τ) j None refl (st l τ z [] Dropped u st2) d) (ih u y m b (after_step z [] Dropped u st2 f) h)
-  stands_next k n ih z y m b f (Enter q i ∷ ms) (u, None, v, s) =
-      let same : y ≡ v.left = s.0 ∙ v.leaving in
-      subst (λ j. Stood z j.grants) (sym same) (left_halted n z v.left v.entered q i k (ap (λ j. j.moves) (sym same) ∙ m) (ap (λ j. j.grants) (sym same) ∙ b) f v.entry (runs_derived prog v.entered q (entering prog (z.tree q) i) v.left None (n, v.run)))
-  stands_next k n ih z y m b f (Enter q i ∷ ms) (u, Some r, v, s) =
-      let d = runs_derived prog v.entered q (entering prog (z.tree q) i) v.left (Some r) (n, v.run) in
-      let g : NoExitLast u = after_step v.left q (Done None r) u v.leaving (later d (after_step z q (In None i) v.entered v.entry f)) in
-      entry_past z v.entered v.left u q i r y.grants v.entry d v.leaving (stays_on k n ih u y r m b g s)
+  stands_next k n ih z y m b f (Enter q i ∷ ms) h = stands_entry k n ih z y m b f q i (z.tree q) refl h
 
   stands : (k n : ℕ) → Standing k n
   unfolding Standing

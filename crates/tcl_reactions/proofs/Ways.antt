@@ -1,17 +1,16 @@
 -- What a player reads of some happenings, and the worlds in which they are ahead.
-use Rattle.std.proofs.Common.{sym, ◌≡◌, ℕ, suc, ◌+◌, List, [], ◌∷◌, ◌++◌, Option, Some, None, refl, ◌∙◌, ap, subst, arith, append-nil, append_assoc}
+use Rattle.std.proofs.Common.{sym, ◌≡◌, ℕ, suc, ◌+◌, List, [], ◌∷◌, ◌++◌, Option, Some, None, refl, ◌∙◌, ap, subst, arith, append-nil, append_assoc, true, false}
 use Rattle.tcl_core.specs.Paths.{Path, Place, Height, rise_to}
 use Rattle.tcl_core.specs.Endings.{Reply}
-use Rattle.tcl_core.specs.Endings.Reply.{Cut}
-use Rattle.tcl_core.specs.Entries.{Entry}
+use Rattle.tcl_core.specs.Endings.Reply.{Completed, Stop, Exit, Cut}
+use Rattle.tcl_core.specs.Entries.{Entry, Answer}
 use Rattle.tcl_core.specs.Entries.Answer.{Replied}
 use Rattle.tcl_core.specs.Trees.{Tree, Node, What, Event, Move, Grants, effect, asked, granted, paid, where_none}
 use Rattle.tcl_core.specs.Trees.Grants.{Budget}
 use Rattle.tcl_core.specs.Trees.Move.{Enter, Come}
-use Rattle.tcl_core.specs.Trees.What.{Charged, Refused, Nested, Out, In, Done, Back}
+use Rattle.tcl_core.specs.Trees.What.{Charged, Refused, Nested, Out, In, Done, Back, Unfound}
 use Rattle.tcl_core.specs.Programs.{Wait, Wrap, closes}
-use Rattle.tcl_core.specs.Programs.Wrap.{Deeper, Framed}
-use Rattle.tcl_core.specs.Runs.{World, Step, fits}
+use Rattle.tcl_core.specs.Runs.{World, Step, fits, is_told, gone}
 use Rattle.tcl_core.specs.Execution.{Crossings, event}
 use Rattle.tcl_core.specs.Lives.{Outcome, Uncut, IsUncut, begun, begun_at, ended, ended_at, last_of, one_more, outs_of, outcome_of, outcome_at, put, told}
 use Rattle.tcl_core.specs.Lives.Outcome.{Finished, Exited}
@@ -19,17 +18,36 @@ use Rattle.tcl_core.proofs.Beginnings.{outs_append}
 use Rattle.tcl_core.proofs.Following.{handed, allowed, handed-append, allowed-append}
 use Rattle.tcl_core.proofs.Plain.{IsPlain}
 use Rattle.tcl_core.proofs.TreeLaws.{denied_budget}
-use Rattle.tcl_reactions.specs.Playing.{Answers, Fate, HandsIn, Player, Tells, past, plays, suits, telling}
+use Rattle.tcl_reactions.specs.Playing.{Answers, Fate, HandsIn, Player, Tells, past, plays, suits, telling, IsEnd}
+use Rattle.tcl_core.proofs.TreeLaws.{any_close}
 
 -- no entry ended by an exit
 abbrev pub Calm : Outcome → Type 0
 Calm (Exited n) = Prim.⊥
 Calm x = Unit {0}
 
-pub calm_suits : (O : Type 0) (x : Outcome) (s : Wait) (m : Move O) → Calm x → suits x s m ≡ fits s m
-calm_suits O (Exited n) s m c = absurd c
-calm_suits O x s (Come a) c = refl
-calm_suits O x s m c = refl
+-- an end fits every open call
+end_told : (g : Option ℕ) (h : Height) (i : Entry) (r : Reply) → IsEnd (Replied r) → is_told g h i (Replied r) ≡ true
+end_told g h i (Completed d) f = absurd f
+end_told g h i (Stop n m) f = absurd f
+end_told None (Some h) i (Exit n) f = refl
+end_told None (Some h) i (Cut d) f = refl
+end_told None None i (Exit n) f = refl
+end_told None None i (Cut d) f = refl
+end_told (Some g) h i (Exit n) f = refl
+end_told (Some g) h i (Cut d) f = refl
+
+pub fits_open : (O : Type 0) (T : Tree O) (p : Place) (c : Height × Entry × ℕ) (r : Reply) → IsEnd (Replied r) → fits T p (Some c) (Come (Replied r)) ≡ true
+fits_open O T p c r f = end_told (gone c.2 T p) c.0 c.1 r f
+
+pub fits_end : (O : Type 0) (T U : Tree O) (p q : Place) (s : Wait) (a : Answer) → fits T p s (Come a) ≡ true → (r : Reply) → IsEnd (Replied r) → fits U q s (Come (Replied r)) ≡ true
+fits_end O T U p q None a e r f = let x : false ≡ true = e in cc
+fits_end O T U p q (Some c) a e r f = fits_open O U q c r f
+
+pub calm_suits : (O : Type 0) (x : Outcome) (T : Tree O) (p : Place) (s : Wait) (m : Move O) → Calm x → suits x T p s m ≡ fits T p s m
+calm_suits O (Exited n) T p s m c = absurd c
+calm_suits O x T p s (Come a) c = refl
+calm_suits O x T p s m c = refl
 
 pub calm_finished : (x : Outcome) → x ≡ Finished → Calm x
 calm_finished x e = subst Calm (sym e) tt
@@ -161,6 +179,7 @@ module _ {O : Type 0} where
   by_plain T s p (Back h a) o u f g c = absurd f
   by_plain T s p (In h i) o u f g c = absurd f
   by_plain T s p (Done h r) o u f g c = absurd f
+  by_plain T s p (Unfound t i y) o u f g c = absurd f
   by_plain T s p Charged o u f g c =
       let e : u ≡ record { left = o.left; steps = u.steps; outs = o.outs; fate = o.fate } = c.told.2 in
       record { left = ap (λ z. z.left) e; steps = ap Budget c.told.1; outs = ap (λ z. z.outs) e; fate = ap (λ z. z.fate) e }
@@ -171,6 +190,7 @@ module _ {O : Type 0} where
   plain_told : (p : Place) (x : What O) → IsPlain x → told p x [] ≡ []
   plain_told p (Out h d i) f = absurd f
   plain_told p (Done h r) f = absurd f
+  plain_told p (Unfound t i y) f = absurd f
   plain_told p x f = refl
 
   plain_open : (p : Place) (x : What O) → IsPlain x → begun (event p x ∷ []) ≡ ended (event p x ∷ []) + 0
@@ -194,15 +214,11 @@ module _ {O : Type 0} where
       let m : Meets p x o u = by_plain T s p x o u f g c in
       met p x o u m o.left (sym (silent o.left)) m.left (plain_told p x f) g (plain_open p x f) n
 
-  pub closes_same : (T : Tree O) (s : Wait) (p : Place) (b : Wrap O) (n : Option (Node O)) (o u : Player O) → Crossings plays T o s (event p (closes b n)) u → u ≡ o
-  closes_same T s p Deeper n o u c = c.told
-  closes_same T s p (Framed k back) None o u c = c.told
-  closes_same T s p (Framed k back) (Some n) o u c = c.told
+  pub closes_same : (T : Tree O) (s : Wait) (p : Place) (b : Wrap O) (m n : Option (Node O)) (o u : Player O) → Crossings plays T o s (event p (closes b m n)) u → u ≡ o
+  closes_same T s p b m n o u = any_close (λ x. Crossings plays T o s (event p x) u → u ≡ o) b m n (λ c. c.told) (λ c. c.told) (λ y c. c.told)
 
-  pub closes_uncut : (p : Place) (b : Wrap O) (n : Option (Node O)) → Uncut p (closes b n)
-  closes_uncut p Deeper n = tt
-  closes_uncut p (Framed k back) None = tt
-  closes_uncut p (Framed k back) (Some n) = tt
+  pub closes_uncut : (p : Place) (b : Wrap O) (m n : Option (Node O)) → Uncut p (closes b m n)
+  closes_uncut p b m n = any_close (Uncut p) b m n tt tt (λ y. tt)
 
   -- a crossing between two interpreters of the tree
   abbrev pub IsInner : Place → What O → Place → Type 0
@@ -214,7 +230,7 @@ module _ {O : Type 0} where
 
   pub inner_same : (T : Tree O) (s : Wait) (p : Place) (x : What O) (a : Place) (o u : Player O) → IsInner p x a → Crossings plays T o s (event p x) u → u ≡ o
   inner_same T s p (Out h d i) a o u e c = subst (λ l. past l o u (Tells o.fate o (event p (Out h d i)) u)) e c.told
-  inner_same T s p (Back h y) a o u e c = subst (λ l. past l o u (Answers T o s y u)) e c.told
+  inner_same T s p (Back h y) a o u e c = subst (λ l. past l o u (Answers T p o s y u)) e c.told
   inner_same T s p (In h i) a o u e c = subst (λ l. past l o u (HandsIn o p i u)) e c.told
   inner_same T s p (Done h r) a o u e c = subst (λ l. past l o u (Tells o.fate o (event p (Done h r)) u)) e c.told
   inner_same T s p x a o u e c = absurd e

@@ -1,23 +1,24 @@
 -- Small playings, one for each outcome. The tree is the child of the worked life of tcl_core.
 use Rattle.std.specs.Prelude.{◌≡◌, ℕ, pos, List, [], ◌∷◌, ◌++◌, Some, None}
-use Rattle.tcl_core.specs.Endings.{Reply, ok}
+use Rattle.tcl_core.specs.Endings.{Reply, error, ok}
 use Rattle.tcl_core.specs.Endings.Cause.{Above}
 use Rattle.tcl_core.specs.Endings.Meter.{Count}
+use Rattle.tcl_core.specs.Endings.Kind.{Full, Gone}
 use Rattle.tcl_core.specs.Endings.Reply.{Completed, Cut, Exit, Stop}
 use Rattle.tcl_core.specs.Entries.{Answer, Request}
-use Rattle.tcl_core.specs.Entries.Answer.{Replied, Heard}
+use Rattle.tcl_core.specs.Entries.Answer.{Replied, Heard, Nobody}
 use Rattle.tcl_core.specs.Entries.Entry.{AskHost, Eval}
 use Rattle.tcl_core.specs.Entries.HostReply.{Line, TheEnd, TheRest, Fails}
 use Rattle.tcl_core.specs.Entries.Request.{Open, ReadAll, ReadLine}
-use Rattle.tcl_core.specs.Example.{Script, an_answer, child_alone, commands, finish, finish_calls}
-use Rattle.tcl_core.specs.Example.{lost, one_entry}
+use Rattle.tcl_core.specs.Example.{Script, an_answer, child, child_alone, commands, finish}
+use Rattle.tcl_core.specs.Example.{finish_calls, lost, nobody, one_entry}
 use Rattle.tcl_core.specs.Lives.{Outcome}
 use Rattle.tcl_core.specs.Lives.Outcome.{Finished, Waiting, Ended, Exited, Spent, Misfit}
 use Rattle.tcl_core.specs.Programs.{Table}
 use Rattle.tcl_core.specs.Programs.Prog.{done, exit, call}
 use Rattle.tcl_core.specs.Execution.{event}
 use Rattle.tcl_core.specs.Trees.{Event, Move, Tree}
-use Rattle.tcl_core.specs.Trees.Move.{Come}
+use Rattle.tcl_core.specs.Trees.Move.{Enter, Come}
 use Rattle.tcl_core.specs.Trees.What.{Out, Done}
 use Rattle.tcl_reactions.specs.Playing.{IsOver, Lived, Player, beginner, outcome}
 
@@ -26,7 +27,7 @@ abbrev pub asking : Table ℕ Script
 asking = record {
   program = λ i. done lost;
   entry = λ i. call (Some 1) [] i lost finish;
-  lost = lost;
+  lost = nobody;
   programs_call = λ i. tt;
   entries_call = λ i. finish_calls;
 }
@@ -36,7 +37,7 @@ abbrev pub leaving : Table ℕ Script
 leaving = record {
   program = λ i. done lost;
   entry = λ i. exit (pos 3);
-  lost = lost;
+  lost = λ path. lost;
   programs_call = λ i. tt;
   entries_call = λ i. tt;
 }
@@ -57,6 +58,13 @@ asked = event [] (Out (Some 1) [] (Eval []))
 abbrev pub done_so : Event ℕ
 done_so = event [] (Done None (Completed (ok [])))
 
+-- an entry that finds nobody: the child has no child
+abbrev pub stray_entry : List (Move ℕ)
+stray_entry = Enter (child ∷ []) (Eval []) ∷ []
+
+abbrev pub nobody_there : Event ℕ
+nobody_there = event (child ∷ []) (Done None (Completed (error child)))
+
 -- an entry, and then this reply, or this word of a host
 abbrev pub one_entry_and : Reply → List (Move ℕ)
 one_entry_and r = one_entry ++ Come (Replied r) ∷ []
@@ -75,8 +83,16 @@ pub record WorkedPlayings : Type 0 where
   pub answered : Comes_to asking (one_entry_and (Completed (ok []))) 1 Finished
       (asked ∷ done_so ∷ [])
   pub waiting : Comes_to asking one_entry 1 Waiting (asked ∷ [])
+  -- that nobody is there to answer it: it goes on by its own completion for that
+  pub missed : Comes_to asking (one_entry ++ Come Nobody ∷ []) 1 Finished
+      (asked ∷ event [] (Done None (Completed lost)) ∷ [])
   pub ended : Comes_to asking (one_entry_and (Cut Above)) 1 Ended (asked ∷ [])
   pub unfit : Comes_to asking one_entry_heard 1 Misfit (asked ∷ [])
+  -- an entry that finds nobody is told so, before another one and while a call is open
+  pub unfound : Comes_to commands (stray_entry ++ one_entry) 1 Finished
+      (nobody_there ∷ done_so ∷ [])
+  pub unfound_meanwhile : Comes_to asking (one_entry ++ stray_entry) 1 Waiting
+      (asked ∷ nobody_there ∷ [])
   -- an exit
   pub exited : Comes_to leaving one_entry 1 (Exited (pos 3))
       (event [] (Done None (Exit (pos 3))) ∷ [])
@@ -86,7 +102,7 @@ abbrev pub asking_host : Request → Table ℕ Script
 asking_host q = record {
   program = λ i. done lost;
   entry = λ i. call None [] (AskHost q) lost finish;
-  lost = lost;
+  lost = λ path. lost;
   programs_call = λ i. tt;
   entries_call = λ i. finish_calls;
 }
@@ -110,7 +126,11 @@ pub record WorkedMisfits : Type 0 where
   pub opening_refused : AnswersNoRequest (ReadAll []) (Heard (Fails 267))
   -- a completion and a stop of a request; what a host says of an alias
   pub completed : AnswersNoRequest (ReadLine []) (Replied (Completed (ok [])))
-  pub stopped : AnswersNoRequest (ReadLine []) (Replied (Stop 0 Count))
+  pub stopped : AnswersNoRequest (ReadLine []) (Replied (Stop 0 (Full Count)))
+  -- what ends a caller that is gone, of one that isn't
+  pub deleted : AnswersNoRequest (ReadLine []) (Replied (Stop 0 Gone))
   pub heard : AnswersNoAlias (Heard (Line []))
+  -- that nobody is there, of a request
+  pub missed : AnswersNoRequest (ReadLine []) Nobody
   -- a stop that names the interpreter to which the call goes up
-  pub stopped_from_above : AnswersNoAlias (Replied (Stop 1 Count))
+  pub stopped_from_above : AnswersNoAlias (Replied (Stop 1 (Full Count)))

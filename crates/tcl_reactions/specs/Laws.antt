@@ -2,23 +2,23 @@
 use Rattle.std.specs.Prelude.{◌≡◌, ◌⊎◌, ◌≤◌, ℕ, ℤ, Bool, true, false, nat_lt, List, [], ◌∷◌, ◌++◌}
 use Rattle.std.specs.Prelude.{Some, None}
 use Rattle.tcl_core.specs.Paths.{Path, Place, Height, rise_to}
-use Rattle.tcl_core.specs.Endings.{Cause, Reply}
+use Rattle.tcl_core.specs.Endings.{Cause, Completion, Reply}
 use Rattle.tcl_core.specs.Endings.Meter.{Count}
 use Rattle.tcl_core.specs.Endings.Cause.{Over}
 use Rattle.tcl_core.specs.Endings.Reply.{Exit, Cut}
 use Rattle.tcl_core.specs.Entries.{Entry, Answer}
 use Rattle.tcl_core.specs.Entries.Answer.{Replied}
-use Rattle.tcl_core.specs.Trees.{Event, Tree, Move, What, at}
+use Rattle.tcl_core.specs.Trees.{Event, Tree, Move, What, at, depth_of}
 use Rattle.tcl_core.specs.Trees.Move.{Come}
-use Rattle.tcl_core.specs.Trees.What.{Charged, Refused, Dropped, Out, In, Done, Back}
+use Rattle.tcl_core.specs.Trees.What.{Charged, Refused, Dropped, Out, In, Done, Back, Unfound}
 use Rattle.tcl_core.specs.Programs.{Table, Wait}
-use Rattle.tcl_core.specs.Runs.{Runs, Visits, World, is_own}
+use Rattle.tcl_core.specs.Runs.{Runs, Visits, World, gone, is_told}
 use Rattle.tcl_core.specs.Meaning.{by_test}
 use Rattle.tcl_core.specs.Views.{moves_of, steps_of, view}
 use Rattle.tcl_core.specs.Execution.{event}
 use Rattle.tcl_core.specs.Lives.{Outcome, React, begun, ended, outcome_of, outs_of}
 use Rattle.tcl_core.specs.Lives.Outcome.{Ended, Exited, Finished, Waiting}
-use Rattle.tcl_core.specs.Laws.{IsUnended, IsUpright, KeepsTop, ReadsMove, after, depth_of}
+use Rattle.tcl_core.specs.Laws.{IsUnended, IsUpright, KeepsTop, ReadsMove, after}
 use Rattle.tcl_reactions.specs.Moving.{Budgeted, Moved, beginning, budgeted, result_by}
 use Rattle.tcl_reactions.specs.Moving as moving
 use Rattle.tcl_reactions.specs.Playing.{Fate, Player, Lived, IsOver, beginner, last_end, outcome}
@@ -40,12 +40,13 @@ MovesReact O I S = (goes : Tree O → S → Wait → Event O → S → Bool) (pr
     moving.Lived (budgeted (by_test goes)) prog T (beginning o limit) V c x →
     Moved (by_test goes) prog T o limit (result_by c.halt x) V c.outside
 
--- What is played leaves each depth as it was, where above each interpreter that stands all stand
--- and are in use as deeply: all entries came to their end by then, also where the playing was cut
--- short.
+-- What is played leaves each depth as it was, or 0 where who stood there was dropped, where above
+-- each interpreter that stands all stand and are in use as deeply: all entries came to their end by
+-- then, also where the playing was cut short. So where nothing was in progress nothing is.
 abbrev pub DepthsStay : Type 0 → Type 0 → Type 0
 DepthsStay O I = (prog : Table O I) (S V : Tree O) (o z : Player O) →
-    Lived prog S o V z → IsUpright S → (q : Place) → depth_of (V q) ≡ depth_of (S q)
+    Lived prog S o V z → IsUpright S → (q : Place) →
+    (depth_of (V q) ≡ depth_of (S q)) ⊎ (depth_of (V q) ≡ 0)
 
 -- each end from outside among these moves is one by what is above
 abbrev pub AreFromAbove : {O : Type 0} → List (Move O) → Type 0
@@ -129,15 +130,18 @@ pub record NeverStuck (O : Type 0) : Type 0 where
       plays T o None (event p (Done h r)) z
   pub comes_back : (T : Tree O) (p a : Place) (h : Height) (y : Answer) (o : Player O) →
       rise_to h p ≡ Some a → (z : Player O) × plays T o None (event p (Back h y)) z
-  -- to a call that left the tree an entry comes next, or an answer of its own
-  pub next : (T : Tree O) (p : Place) (h : Height) (i : Entry) (o : Player O) → rise_to h p ≡ None →
+  -- to a call that left the tree an entry comes next, whether it finds somebody or nobody; or an
+  -- answer of its own
+  pub next : (T : Tree O) (p : Place) (h : Height) (i : Entry) (d : ℕ) (o : Player O) →
+      rise_to h p ≡ None →
       KeepsTop o.left →
-      ((t : Path) × (e : Entry) × (z : Player O) × plays T o None (event t (In None e)) z) ⊎
-      ((a : Answer) × (z : Player O) × plays T o (Some (h, i)) (event p (Back h a)) z ×
-      (is_own h i a ≡ true))
+      ((t : Path) × (e : Entry) × ((z : Player O) × plays T o None (event t (In None e)) z) ×
+      ((c : Completion) → (z : Player O) × plays T o None (event [] (Unfound t e c)) z)) ⊎
+      ((a : Answer) × (z : Player O) × plays T o (Some (h, i, d)) (event p (Back h a)) z ×
+      (is_told (gone d T p) h i a ≡ true))
   -- and after an entry of it that ended by an exit the call ends by that exit
   pub has_exited : (T : Tree O) (t : Path) (n : ℤ) (o z : Player O) →
       plays T o None (event t (Done None (Exit n))) z → HasExited z n
-  pub exits : (T : Tree O) (p : Place) (h : Height) (i : Entry) (n : ℤ) (o : Player O) →
+  pub exits : (T : Tree O) (p : Place) (h : Height) (i : Entry) (d : ℕ) (n : ℤ) (o : Player O) →
       rise_to h p ≡ None → HasExited o n → (z : Player O) ×
-      plays T o (Some (h, i)) (event p (Back h (Replied (Exit n)))) z
+      plays T o (Some (h, i, d)) (event p (Back h (Replied (Exit n)))) z

@@ -7,14 +7,13 @@ use Rattle.tcl_core.specs.Endings.Meter.{Count, Depth}
 use Rattle.tcl_core.specs.Endings.Reply.{Cut}
 use Rattle.tcl_core.specs.Entries.{Entry, Answer}
 use Rattle.tcl_core.specs.Entries.Answer.{Replied}
-use Rattle.tcl_core.specs.Trees.{Tree, What, Event}
-use Rattle.tcl_core.specs.Trees.What.{Charged, Refused, Out, In, Done, Back}
+use Rattle.tcl_core.specs.Trees.{Tree, Node, What, Event}
+use Rattle.tcl_core.specs.Trees.What.{Charged, Refused, In, Done, Back, Unfound}
 use Rattle.tcl_core.specs.Programs.{Wait, Table}
-use Rattle.tcl_core.specs.Runs.{entering}
 use Rattle.tcl_core.specs.Views.{moves_of, steps_of}
 use Rattle.tcl_core.specs.Execution.{Chain, Crossings, Executes, Open, event}
 use Rattle.tcl_core.specs.Lives.{Outcome, React, ending_of, outs_of}
-use Rattle.tcl_core.specs.Lives.Outcome.{Finished, Exited, Ended, Spent}
+use Rattle.tcl_core.specs.Lives.Outcome.{Finished, Ended, Spent}
 use Rattle.tcl_reactions.specs.Playing.{IsEnd}
 
 -- The life from the tree T and the outside's state o, entry by entry: each is handed in where the
@@ -22,10 +21,14 @@ use Rattle.tcl_reactions.specs.Playing.{IsEnd}
 pub data Lived {O I S : Type 0} (goes : Tree O → S → Wait → Event O → S → Type 0)
     (prog : Table O I) (T : Tree O) (o : S) : Tree O → S → Outcome → Type 0 where
   begun : Lived goes prog T o T o Finished
-  entered : {U V : Tree O} {u w v z : S} (t : Path) (i : Entry) (r : Reply) →
-      Lived goes prog T o U u Finished → goes U u None (event t (In None i)) w →
-      Executes (Crossings goes) prog U w t (entering prog (U t) i) V v r →
+  entered : {U V : Tree O} {u w v z : S} {node : Node O} (t : Path) (i : Entry) (r : Reply) →
+      Lived goes prog T o U u Finished → U t ≡ Some node → goes U u None (event t (In None i)) w →
+      Executes (Crossings goes) prog U w t (prog.entry i) V v r →
       goes V v None (event t (Done None r)) z → Lived goes prog T o V z (ending_of r)
+  -- it finds nobody
+  unfound : {U : Tree O} {u z : S} (t : Path) (i : Entry) → Lived goes prog T o U u Finished →
+      U t ≡ None → goes U u None (event [] (Unfound t i (prog.lost t))) z →
+      Lived goes prog T o U z Finished
 
 -- why such a life is over before the last entry came to its end by itself
 pub data Halt : Type 0 where
@@ -65,6 +68,7 @@ unwinds p Charged = Prim.⊥
 unwinds p (Refused Depth h) = Prim.⊥
 unwinds p (In h i) = past (rise_to h p) Prim.⊥
 unwinds p (Back h a) = past (rise_to h p) (IsEnd a)
+unwinds p (Unfound t i c) = Prim.⊥
 unwinds p x = Unit {0}
 
 module _ {O S : Type 0} (goes : Tree O → S → Wait → Event O → S → Type 0) where

@@ -3,16 +3,16 @@
 use Rattle.std.specs.Prelude.{◌≡◌, ℕ, suc, Bool, true, false, List, [], ◌∷◌, ◌++◌, Option, Some}
 use Rattle.std.specs.Prelude.{None}
 use Rattle.tcl_core.specs.Paths.{Path, Place, rise_to}
-use Rattle.tcl_core.specs.Endings.{Reply}
+use Rattle.tcl_core.specs.Endings.{Completion, Reply}
 use Rattle.tcl_core.specs.Endings.Meter.{Count}
-use Rattle.tcl_core.specs.Endings.Reply.{Exit, Cut}
+use Rattle.tcl_core.specs.Endings.Reply.{Completed, Exit, Cut}
 use Rattle.tcl_core.specs.Entries.{Entry, Answer}
 use Rattle.tcl_core.specs.Entries.Answer.{Replied}
-use Rattle.tcl_core.specs.Trees.{Tree, What, Event, Move}
-use Rattle.tcl_core.specs.Trees.What.{Charged, Refused, Out, In, Done, Back}
+use Rattle.tcl_core.specs.Trees.{Tree, Node, What, Event, Move}
+use Rattle.tcl_core.specs.Trees.What.{Charged, Refused, Out, In, Done, Back, Unfound}
 use Rattle.tcl_core.specs.Trees.Move.{Enter, Come}
 use Rattle.tcl_core.specs.Programs.{Wait, Table}
-use Rattle.tcl_core.specs.Runs.{answers_call, entering, is_exit}
+use Rattle.tcl_core.specs.Runs.{answers_call, gone_from, is_exit}
 use Rattle.tcl_core.specs.Execution.{Crossings, Executes, event}
 use Rattle.tcl_core.specs.Lives.{Outcome, outcome_of}
 use Rattle.tcl_core.specs.Lives.Outcome.{Finished, Waiting, Ended, Exited, Spent, Misfit}
@@ -37,17 +37,17 @@ pub record Player (O : Type 0) : Type 0 where
   pub fate : Option (Fate O)
 
 -- Whether an answer may come to the open call: to an alias how its evaluation ended, to a request
--- one of its own answers; but after an entry that ended by an exit that exit alone. The outcome is
--- that of the last entry.
-abbrev pub may_come : Outcome → Wait → Answer → Bool
-may_come (Exited n) s a = is_exit n a
-may_come x s a = answers_call s a
+-- one of its own answers, and to a caller that is gone what is no completion; but after an entry
+-- that ended by an exit that exit alone. The outcome is that of the last entry.
+abbrev pub may_come : Outcome → Option ℕ → Wait → Answer → Bool
+may_come (Exited n) g s a = is_exit n a
+may_come x g s a = answers_call g s a
 
 -- whether a move may, an entry too
-abbrev pub suits : {O : Type 0} → Outcome → Wait → Move O → Bool
-suits x s (Come a) = may_come x s a
-suits (Exited n) s m = false
-suits x s m = true
+abbrev pub suits : {O : Type 0} → Outcome → Tree O → Place → Wait → Move O → Bool
+suits x T p s (Come a) = may_come x (gone_from s T p) s a
+suits (Exited n) T p s m = false
+suits x T p s m = true
 
 -- an end from outside
 abbrev pub IsCut : Answer → Type 0
@@ -80,23 +80,23 @@ module _ {O : Type 0} where
   abbrev pub last_end : Player O → Outcome
   last_end o = outcome_of o.outs Finished
 
--- The open call s is answered by a, the tree being T.
-pub data Answers {O : Type 0} (T : Tree O) (o : Player O) (s : Wait) (a : Answer) (z : Player O) :
-    Type 0 where
+-- The open call s of who stood at p is answered by a, the tree being T.
+pub data Answers {O : Type 0} (T : Tree O) (p : Place) (o : Player O) (s : Wait) (a : Answer)
+    (z : Player O) : Type 0 where
   -- by the next move
   reads : (ms : List (Move O)) → o.fate ≡ None → o.left ≡ Come a ∷ ms →
-      suits {O = O} (last_end o) s (Come a) ≡ true → IsNoCut a → z ≡ reading o ms →
-      Answers T o s a z
+      suits (last_end o) T p s (Come a) ≡ true → IsNoCut a → z ≡ reading o ms →
+      Answers T p o s a z
   -- or the playing is over by it: the next move is an end from outside; there is none; or it
   -- doesn't fit
   ends : (b : Answer) (ms : List (Move O)) → o.fate ≡ None → o.left ≡ Come b ∷ ms →
-      suits {O = O} (last_end o) s (Come b) ≡ true → IsCut b → IsEnd a →
-      z ≡ stopping (reading o ms) EndsAbove → Answers T o s a z
-  waits : o.fate ≡ None → o.left ≡ [] → IsEnd a → z ≡ stopping o (Waits T) → Answers T o s a z
+      suits (last_end o) T p s (Come b) ≡ true → IsCut b → IsEnd a →
+      z ≡ stopping (reading o ms) EndsAbove → Answers T p o s a z
+  waits : o.fate ≡ None → o.left ≡ [] → IsEnd a → z ≡ stopping o (Waits T) → Answers T p o s a z
   unfits : (m : Move O) (ms : List (Move O)) → o.fate ≡ None → o.left ≡ m ∷ ms →
-      suits (last_end o) s m ≡ false → IsEnd a → z ≡ stopping o Unfits → Answers T o s a z
+      suits (last_end o) T p s m ≡ false → IsEnd a → z ≡ stopping o Unfits → Answers T p o s a z
   -- or it was over already, and nothing more is read
-  passes : (f : Fate O) → o.fate ≡ Some f → IsEnd a → z ≡ o → Answers T o s a z
+  passes : (f : Fate O) → o.fate ≡ Some f → IsEnd a → z ≡ o → Answers T p o s a z
 
 module _ {O : Type 0} where
   -- a step is made, where the playing goes on and one is left
@@ -112,6 +112,11 @@ module _ {O : Type 0} where
   -- an entry is handed in: the next move
   abbrev pub HandsIn : Player O → Path → Entry → Player O → Type 0
   HandsIn o t i z = (o.fate ≡ None) × (o.left ≡ Enter t i ∷ z.left) × (z ≡ reading o z.left)
+
+  -- or finds nobody: it is handed in, and its end is told
+  abbrev pub FindsNobody : Player O → Path → Entry → Completion → Player O → Type 0
+  FindsNobody o t i c z = (u : Player O) × HandsIn o t i u ×
+      (z ≡ telling u (event t (Done None (Completed c))))
 
   -- what is told is kept as long as the playing goes on
   abbrev pub Tells : Option (Fate O) → Player O → Event O → Player O → Type 0
@@ -131,7 +136,8 @@ module _ {O : Type 0} where
       (Tells o.fate o (event p (Out h down i)) z)
   meets T o s p (Done h r) z = past (rise_to h p) o z (Tells o.fate o (event p (Done h r)) z)
   meets T o s p (In h i) z = past (rise_to h p) o z (HandsIn o p i z)
-  meets T o s p (Back h a) z = past (rise_to h p) o z (Answers T o s a z)
+  meets T o s p (Back h a) z = past (rise_to h p) o z (Answers T p o s a z)
+  meets T o s p (Unfound t i c) z = FindsNobody o t i c z
   meets T o s p _ z = z ≡ o
 
   -- The player goes from o to z by a happening, which finds the tree T. It refuses no evaluation:
@@ -144,11 +150,15 @@ module _ {O : Type 0} where
 pub data Lived {O I : Type 0} (prog : Table O I) (T : Tree O) (o : Player O) : Tree O → Player O →
     Type 0 where
   begun : Lived prog T o T o
-  entered : {U V : Tree O} {u w v z : Player O} (t : Path) (i : Entry) (r : Reply) →
-      Lived prog T o U u → u.fate ≡ None → last_end u ≡ Finished →
+  entered : {U V : Tree O} {u w v z : Player O} {node : Node O} (t : Path) (i : Entry) (r : Reply) →
+      Lived prog T o U u → u.fate ≡ None → last_end u ≡ Finished → U t ≡ Some node →
       plays U u None (event t (In None i)) w →
-      Executes (Crossings plays) prog U w t (entering prog (U t) i) V v r →
+      Executes (Crossings plays) prog U w t (prog.entry i) V v r →
       plays V v None (event t (Done None r)) z → Lived prog T o V z
+  -- it finds nobody
+  unfound : {U : Tree O} {u z : Player O} (t : Path) (i : Entry) → Lived prog T o U u →
+      u.fate ≡ None → last_end u ≡ Finished → U t ≡ None →
+      plays U u None (event [] (Unfound t i (prog.lost t))) z → Lived prog T o U z
 
 module _ {O : Type 0} where
   -- who is to play these moves, with so many steps

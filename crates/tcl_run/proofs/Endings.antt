@@ -31,7 +31,8 @@ use Rattle.tcl_words.specs.Limits.{limited}
 use Rattle.tcl_words.specs.Outcomes.{Refuses as WordsRefuse}
 use Rattle.tcl_words.specs.declared.refusal.Refusal.{Refusal}
 use Rattle.tcl_words.specs.declared.refusal.Refusal.TheVariants as refusal
-use Rattle.tcl_run.specs.Ends.{Breaks, IfRan, Interrupts, IfEnded, IsFailure, Says, IsText, Tells, ListTells, WordsTell, failing, itself}
+use Rattle.tcl_flow.specs.declared.completion.Completion.{Completion as CodeCompletion}
+use Rattle.tcl_run.specs.Ends.{Breaks, Catches, Completes, IfRan, Interrupts, IfEnded, IsFailure, OnCompletion, Says, IsText, Tells, ListTells, WordsTell, failing, itself}
 
 pub Interrupts-more : (i : Interruption) (P Q : Reply → Type 0) → ((r : Reply) → P r → Q r) → Interrupts i P → Interrupts i Q
 Interrupts-more interruption.Memory P Q f p = tt
@@ -240,3 +241,54 @@ says_err r i y R P Q e same h k = subst (λ (x : Result _ Interruption). MatchRe
 -- an interruption that is want of memory, passed on
 pub memory_err : {A : Type 0} (r : Result A Interruption) (y : Interruption) (R : A → Type 0) (Q : Ending → Type 0) → r ≡ Err y → y ≡ interruption.Memory → Q None → MatchResult r R (λ j. Breaks j Q)
 memory_err r y R Q e same n = subst (λ (x : Result _ Interruption). MatchResult x R (λ j. Breaks j Q)) (sym (e ∙ ap Err same)) n
+
+-- ## Completions
+
+pub Completes-more : (i : Interruption) (P Q : Type 0) → (P → Q) → Completes i P → Completes i Q
+Completes-more interruption.Memory P Q f p = tt
+Completes-more (interruption.Completed c) P Q f p = f p
+Completes-more (interruption.Stopped s) P Q f p = tt
+Completes-more (interruption.Exited n) P Q f p = tt
+Completes-more (interruption.Cut c) P Q f p = tt
+
+-- what holds anyway holds where there is a completion
+pub Completes-all : (i : Interruption) (P : Type 0) → P → Completes i P
+Completes-all interruption.Memory P p = tt
+Completes-all (interruption.Completed c) P p = p
+Completes-all (interruption.Stopped s) P p = tt
+Completes-all (interruption.Exited n) P p = tt
+Completes-all (interruption.Cut c) P p = tt
+
+pub on_completion : {A : Type 0} (r : Result A Interruption) (P : Type 0) → P → OnCompletion r P
+on_completion (Ok a) P p = p
+on_completion (Err i) P p = Completes-all i P p
+
+pub OnCompletion-more : {A : Type 0} (r : Result A Interruption) (P Q : Type 0) → (P → Q) → OnCompletion r P → OnCompletion r Q
+OnCompletion-more (Ok a) P Q f p = f p
+OnCompletion-more (Err i) P Q f p = Completes-more i P Q f p
+
+-- what came to an ordinary text
+pub completed_text : (r : Result (List ℕ) Interruption) (text : List ℕ) (P : Type 0) → IsText r text → OnCompletion r P → P
+completed_text (Ok t) text P e p = p
+completed_text (Err interruption.Memory) text P e p = elim e [ ]
+completed_text (Err (interruption.Completed c)) text P e p = p
+completed_text (Err (interruption.Stopped s)) text P e p = elim e [ ]
+completed_text (Err (interruption.Exited n)) text P e p = elim e [ ]
+completed_text (Err (interruption.Cut c)) text P e p = elim e [ ]
+
+-- what was caught
+pub completed_caught : (r : Result (List ℕ) Interruption) (c : CodeCompletion) (P : Type 0) → Catches r (Ok c) → OnCompletion r P → P
+completed_caught (Ok t) c P e p = p
+completed_caught (Err interruption.Memory) c P e p = let clash : ◌≡◌ {A = Result CodeCompletion Interruption} (Ok c) (Err interruption.Memory) = e in absurd cc
+completed_caught (Err (interruption.Completed d)) c P e p = p
+completed_caught (Err (interruption.Stopped s)) c P e p = let clash : ◌≡◌ {A = Result CodeCompletion Interruption} (Ok c) (Err (interruption.Stopped s)) = e in absurd cc
+completed_caught (Err (interruption.Exited n)) c P e p = let clash : ◌≡◌ {A = Result CodeCompletion Interruption} (Ok c) (Err (interruption.Exited n)) = e in absurd cc
+completed_caught (Err (interruption.Cut d)) c P e p = let clash : ◌≡◌ {A = Result CodeCompletion Interruption} (Ok c) (Err (interruption.Cut d)) = e in absurd cc
+
+-- an interruption that is passed on
+pub completes_err : {A : Type 0} (r : Result A Interruption) (i y : Interruption) (P Q : Type 0) → r ≡ Err y → y ≡ i → Completes i P → (P → Q) → OnCompletion r Q
+completes_err r i y P Q e same h k = subst (λ (x : Result _ Interruption). OnCompletion x Q) (sym (e ∙ ap Err same)) (Completes-more i P Q k h)
+
+-- the interruption of a call that is passed on
+pub passed_err : {A B : Type 0} (r : Result A Interruption) (x : Result B Interruption) (i y : Interruption) (P Q : Type 0) → r ≡ Err y → y ≡ i → x ≡ Err i → OnCompletion x P → (P → Q) → OnCompletion r Q
+passed_err r x i y P Q e same is h k = completes_err r i y P Q e same (subst (λ (z : Result _ Interruption). OnCompletion z P) is h) k

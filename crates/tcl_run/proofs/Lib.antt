@@ -9,3 +9,4 @@ pub mod Keeping
 pub mod Proceeding
 pub mod Quiet
 pub mod Fitting
+pub mod Entering

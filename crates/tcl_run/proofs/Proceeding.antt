@@ -1,31 +1,33 @@
 -- One law for each thing that evaluations do on their way: however far it comes from there, so far it comes from here, be it to an end or to where all is given up.
 use Rattle.std.proofs.Common.{◌≡◌, ℕ, ℤ, true, false, List, [], ◌∷◌, ◌++◌, Option, Some, None, refl, sym, ◌∙◌, ap, subst, append-nil}
-use Rattle.std.specs.Prelude.{Result, Ok, Err}
+use Rattle.std.specs.Prelude.{Result, Ok, Err, nat_lt}
 use Rattle.tcl_partial_runs.specs.Beginnings as beginnings
 use Rattle.tcl_core.specs.Paths.{Path, Place, Height, rise_to}
 use Rattle.tcl_core.specs.Endings.{Completion, Reply, IsQuit}
 use Rattle.tcl_core.specs.Endings.Meter.{Count, Depth}
 use Rattle.tcl_core.specs.Endings.Reply.{Completed, Stop, Exit, Cut}
 use Rattle.tcl_core.specs.Entries.{Entry, HostReply, Said}
-use Rattle.tcl_core.specs.Entries.Answer.{Replied, Heard}
-use Rattle.tcl_core.specs.Entries.Said.{Finished, Told}
-use Rattle.tcl_core.specs.Trees.{Tree, Node, What, effect, at, allowing}
+use Rattle.tcl_core.specs.Entries.Answer.{Replied, Heard, Nobody}
+use Rattle.tcl_core.specs.Entries.Said.{Finished, Told, Missed}
+use Rattle.tcl_core.specs.Trees.{Tree, Node, What, depth_of, effect, at, allowing}
 use Rattle.tcl_core.specs.Trees.Grants.{Listed}
-use Rattle.tcl_core.specs.Trees.What.{Seen, Charged, Nested, Unnested, Changed, Dropped, Out, In, Done, Back}
-use Rattle.tcl_core.specs.Programs.{Table, Act, Deed, spot, metered, blocked, is_deep, changing, dropping, dropping_at, brought_back}
+use Rattle.tcl_core.specs.Trees.What.{Seen, Charged, Nested, Unnested, Changed, Dropped, Out, In, Done, Back, Unfound}
+use Rattle.tcl_core.specs.Programs.{Table, Act, Deed, spot, metered, blocked, is_deep, changing, dropping, brought_back, or_lost}
 use Rattle.tcl_core.specs.Programs.Act.{Look, Charge, Drop}
 use Rattle.tcl_core.specs.Programs.Wrap.{Deeper, Framed}
 use Rattle.tcl_core.specs.Programs.Next.{On}
 use Rattle.tcl_core.specs.Programs.Prog.{done, exit, act, go, inside, call, wait}
 use Rattle.tcl_core.specs.Rules.{IsOn, IsNoExit}
-use Rattle.tcl_core.specs.Runs.{Ending, carried, entering, is_own, where_stands}
+use Rattle.tcl_core.specs.Runs.{Ending, gone, is_told, returned, where_stands}
 use Rattle.tcl_core.specs.Execution.{Crossings, Decides, event}
 use Rattle.tcl_core.specs.Execution as executes
 use Rattle.tcl_tree.specs.Own.{Own}
 use Rattle.tcl_language.specs.Instructions.{Instr, Program, look, change, at_node, or_fails, grown, either, fits, too_long as too_long_error}
 use Rattle.tcl_language.specs.Interpreters.{finished}
 use Rattle.tcl_run.specs.Ends.{IsFailure, too_deep_at}
-use Rattle.tcl_run.specs.Outsides.{Going, Enters, Returns, Misses}
+use Rattle.tcl_core.specs.Endings.Kind.{Gone}
+use Rattle.tcl_core.specs.Entries.{Answer}
+use Rattle.tcl_run.specs.Outsides.{Answers, AnswersFor, Going, Enters, Returns, Misses, told_to}
 use Rattle.tcl_run.specs.Runs.{Comes, Counts, IsLoss, Proceeds, RefusesStep, Ways}
 use Rattle.tcl_run.specs.Runs.Proceeds.{ended, given_up}
 use Rattle.tcl_run.specs.Runs.IsLoss.{unlost}
@@ -39,8 +41,9 @@ abbrev pub IsQuitting : Ending → Type 0
 IsQuitting None = Unit {0}
 IsQuitting (Some r) = IsQuit r
 
-brings_back : {S : Type 0} {goes : Going S} {V : Tree Own} {u : S} {p : Place} {m : Node Own} (back : Own → Own) → V p ≡ Some m → Crossings goes V u None (event p (brought_back back (V p))) u
-brings_back {S} {goes} {V} {u} {p} back stands = subst (λ (x : What Own). Crossings goes V u None (event p x) u) (sym (ap (brought_back back) stands)) (record { told = refl })
+-- what is told to a caller for an answer is that answer, where it stands
+pub answers_here : {S : Type 0} (goes : Going S) (T : Tree Own) (o u : S) (p : Place) (d : ℕ) (h : Height) (i : Entry) (a : Answer) → gone d T p ≡ None → AnswersFor goes T o p d h i u a → Answers goes T o p d h i u a
+answers_here goes T o u p d h i a here x = subst (λ (g : Option ℕ). Answers goes T o p d h i u (told_to g a)) here x
 
 module _ {S : Type 0} {ways : Ways S} {language : Table Own Instr} where
   -- ## Along equations
@@ -119,10 +122,10 @@ module _ {S : Type 0} {ways : Ways S} {language : Table Own Instr} where
   pub does_proceeds : (x : Program) {T V : Tree Own} {p : Place} {r : Reply} (o : S) → Does x T p V r → Proceeds ways language T o p x V o (Some r)
   does_proceeds x o d = ended (does_comes x o d)
 
-  -- a child is dropped in which no evaluation is in progress
-  pub drops : {T U V : Tree Own} {o u z : S} {p : Place} {name : List ℕ} {n : Node Own} {k : Tree Own → Program} {e : Ending} → T (p ++ name ∷ []) ≡ Some n → n.depth ≡ 0 →
+  -- a child is dropped, whether an evaluation is in progress in it or not
+  pub drops : {T U V : Tree Own} {o u z : S} {p : Place} {name : List ℕ} {n : Node Own} {k : Tree Own → Program} {e : Ending} → T (p ++ name ∷ []) ≡ Some n →
       U ≡ effect (p ++ name ∷ []) Dropped T → ways.goes T o None (event (p ++ name ∷ []) Dropped) u → Proceeds ways language U u p (k (at T p)) V z e → Proceeds ways language T o p (act (Drop name) k) V z e
-  drops {name = name} there idle e g t = acts (Some name, Dropped, On) (λ gs. ap (λ m. Some (dropping name m)) there ∙ ap (λ d. Some (dropping_at {O = Own} name d)) idle) tt (record { told = g }) (at_start e t)
+  drops {name = name} there e g t = acts (Some name, Dropped, On) (λ gs. ap (λ m. Some (dropping name m)) there) tt (record { told = g }) (at_start e t)
 
   -- ## Inner evaluations
 
@@ -157,26 +160,27 @@ module _ {S : Type 0} {ways : Ways S} {language : Table Own Instr} where
   pub nest_refused : {T : Tree Own} {o : S} {p : Place} {i : Instr} (n : ℕ) → blocked is_deep T p ≡ Some n → Proceeds ways language T o p (inside Deeper i done) T o (Some (too_deep_at n))
   nest_refused n e = ended (leads.nest_refused n e)
 
-  -- with other frames, which are put back however it ends
-  pub framed : {T U V W X : Tree Own} {o u z : S} {p : Place} {n m : Node Own} {own : Own} {back : Own → Own} {i : Instr} {k : Completion → Program} {c : Completion} {e : Ending} →
-      T p ≡ Some n → U ≡ effect p (Changed own) T → V p ≡ Some m → W ≡ effect p (Changed (back m.own)) V →
+  -- with other frames, which are put back however it ends, where its interpreter stands still
+  pub framed : {T U V W X : Tree Own} {o u z : S} {p : Place} {n : Node Own} {own : Own} {back : Own → Own} {i : Instr} {k : Completion → Program} {c : Completion} {e : Ending} →
+      T p ≡ Some n → U ≡ effect p (Changed own) T → W ≡ effect p (brought_back (nat_lt (depth_of (V p)) n.depth) back (V p)) V →
       Proceeds ways language U o p (language.program i) V u (Some (Completed c)) → Proceeds ways language W u p (k c) X z e → Proceeds ways language T o p (inside (Framed own back) i k) X z e
-  framed {T} {U} {V} {W} {X} {o} {u} {z} {p} {n} {m} {own} {back} {i} {k} {c} {e} there a stands b t s =
-      by (at_start a t) (at_start (b ∙ ap (λ (x : Option (Node Own)). effect p (brought_back back x) V) (sym stands)) s)
+  framed {T} {U} {V} {W} {X} {o} {u} {z} {p} {n} {own} {back} {i} {k} {c} {e} there a b t s =
+      by (at_start a t) (at_start (b ∙ ap (λ (x : What Own). effect p x V) (sym (leads.closing T V p n own back there))) s)
     where
-      by : {e : Ending} → Proceeds ways language (effect p (Changed own) T) o p (language.program i) V u (Some (Completed c)) → Proceeds ways language (effect p (brought_back back (V p)) V) u p (k c) X z e →
-          Proceeds ways language T o p (inside (Framed own back) i k) X z e
-      by (ended t) (ended s) = ended (executes.wrapped (None, Changed own, On) (λ gs. ap (λ x. Some (changing own x)) there) refl (record { told = refl }) t (brings_back back stands) s)
-      by (ended t) (given_up s l) = given_up (beginnings.wrapped (None, Changed own, On) (λ gs. ap (λ x. Some (changing own x)) there) refl (record { told = refl }) t (brings_back back stands) s) l
+      by : {e : Ending} → Proceeds ways language (effect p (Changed own) T) o p (language.program i) V u (Some (Completed c)) →
+          Proceeds ways language (effect p (brought_back (nat_lt (depth_of (V p)) (depth_of (effect p (Changed own) T p))) back (V p)) V) u p (k c) X z e → Proceeds ways language T o p (inside (Framed own back) i k) X z e
+      by (ended t) (ended s) = ended (executes.wrapped (None, Changed own, On) (λ gs. ap (λ x. Some (changing own x)) there) refl (record { told = refl }) t (leads.closes_unheard ways.goes V u p _ back (V p)) s)
+      by (ended t) (given_up s l) = given_up (beginnings.wrapped (None, Changed own, On) (λ gs. ap (λ x. Some (changing own x)) there) refl (record { told = refl }) t (leads.closes_unheard ways.goes V u p _ back (V p)) s) l
 
-  pub framed_passed : {T U V W : Tree Own} {o u : S} {p : Place} {n m : Node Own} {own : Own} {back : Own → Own} {i : Instr} {k : Completion → Program} {e : Ending} → IsQuitting e →
-      T p ≡ Some n → U ≡ effect p (Changed own) T → V p ≡ Some m → W ≡ effect p (Changed (back m.own)) V →
+  pub framed_passed : {T U V W : Tree Own} {o u : S} {p : Place} {n : Node Own} {own : Own} {back : Own → Own} {i : Instr} {k : Completion → Program} {e : Ending} → IsQuitting e →
+      T p ≡ Some n → U ≡ effect p (Changed own) T → W ≡ effect p (brought_back (nat_lt (depth_of (V p)) n.depth) back (V p)) V →
       Proceeds ways language U o p (language.program i) V u e → Proceeds ways language T o p (inside (Framed own back) i k) W u e
-  framed_passed {T} {U} {V} {W} {o} {u} {p} {n} {m} {own} {back} {i} {k} {e} quit there a stands b t =
-      at_finish (b ∙ ap (λ (x : Option (Node Own)). effect p (brought_back back x) V) (sym stands)) (by quit (at_start a t))
+  framed_passed {T} {U} {V} {W} {o} {u} {p} {n} {own} {back} {i} {k} {e} quit there a b t =
+      at_finish (b ∙ ap (λ (x : What Own). effect p x V) (sym (leads.closing T V p n own back there))) (by quit (at_start a t))
     where
-      by : {e : Ending} → IsQuitting e → Proceeds ways language (effect p (Changed own) T) o p (language.program i) V u e → Proceeds ways language T o p (inside (Framed own back) i k) (effect p (brought_back back (V p)) V) u e
-      by quit (ended t) = ended (executes.wrapped_passed (None, Changed own, On) quit (λ gs. ap (λ x. Some (changing own x)) there) refl (record { told = refl }) t (brings_back back stands))
+      by : {e : Ending} → IsQuitting e → Proceeds ways language (effect p (Changed own) T) o p (language.program i) V u e →
+          Proceeds ways language T o p (inside (Framed own back) i k) (effect p (brought_back (nat_lt (depth_of (V p)) (depth_of (effect p (Changed own) T p))) back (V p)) V) u e
+      by quit (ended t) = ended (executes.wrapped_passed (None, Changed own, On) quit (λ gs. ap (λ x. Some (changing own x)) there) refl (record { told = refl }) t (leads.closes_unheard ways.goes V u p _ back (V p)))
       by quit (given_up s l) = given_up (beginnings.within (None, Changed own, On) (λ gs. ap (λ x. Some (changing own x)) there) refl (record { told = refl }) s) l
 
   -- given up with the other frames, wherever: nothing is said of putting them back
@@ -208,38 +212,34 @@ module _ {S : Type 0} {ways : Ways S} {language : Table Own Instr} where
 
   -- ## Calls of other interpreters of the tree
 
-  entry_runs : {T U : Tree Own} {o u : S} {t : Place} {m : Node Own} {e : Ending} (i : Entry) → T t ≡ Some m →
-      Proceeds ways language T o t (language.entry i) U u e → Proceeds ways language T o t (entering language (T t) i) U u e
-  entry_runs i there t = at_prog (ap (λ x. entering language x i) there) t
-
   -- the caller goes on where its call was answered by a completion
   pub calls_on : {T U V : Tree Own} {o u v w z : S} {p : Place} {n : ℕ} {down : Path} {i : Entry} {lost : Completion} {k : Completion → Program} {m : Node Own} {s : Reply} {e : Ending} {c : Completion} (a : Place) → rise_to (Some n) p ≡ Some a → T (a ++ down) ≡ Some m →
-      Enters ways.goes T o p n a down i u → Proceeds ways language T u (a ++ down) (language.entry i) U v (Some s) → carried (Some n) p down s ≡ Completed c → Returns ways.goes U v p n a down s (carried (Some n) p down s) w → Proceeds ways language U w p (k c) V z e →
+      Enters ways.goes T o p n a down i u → Proceeds ways language T u (a ++ down) (language.entry i) U v (Some s) → returned T U (Some n) p down s ≡ Completed c → Returns ways.goes U v p n a down s (returned T U (Some n) p down s) w → Proceeds ways language U w p (k c) V z e →
       Proceeds ways language T o p (call (Some n) down i lost (finished k)) V z e
-  calls_on {T} {U} {V} {o} {u} {v} {w} {z} {p} {n} {down} {i} {lost} {k} {m} {s} {e} {c} a r there x t f y g = by (entry_runs i there t) g
+  calls_on {T} {U} {V} {o} {u} {v} {w} {z} {p} {n} {down} {i} {lost} {k} {m} {s} {e} {c} a r there x t f y g = by t g
     where
-      by : {e : Ending} → Proceeds ways language T u (a ++ down) (entering language (T (a ++ down)) i) U v (Some s) → Proceeds ways language U w p (k c) V z e → Proceeds ways language T o p (call (Some n) down i lost (finished k)) V z e
+      by : {e : Ending} → Proceeds ways language T u (a ++ down) (language.entry i) U v (Some s) → Proceeds ways language U w p (k c) V z e → Proceeds ways language T o p (call (Some n) down i lost (finished k)) V z e
       by (ended t) (ended g) = ended (executes.called a (a ++ down) r (ap (λ x. where_stands x (a ++ down)) there) (record { told = x.leaves }) (record { told = x.enters }) t (record { told = y.leaves }) f (record { told = y.returns }) g)
       by (ended t) (given_up g l) = given_up (beginnings.called a (a ++ down) r (ap (λ x. where_stands x (a ++ down)) there) (record { told = x.leaves }) (record { told = x.enters }) t (record { told = y.leaves }) f (record { told = y.returns }) g) l
 
   -- what is no completion ends the caller too
   pub calls_passed : {T U : Tree Own} {o u v w : S} {p : Place} {n : ℕ} {down : Path} {i : Entry} {lost : Completion} {k : Completion → Program} {m : Node Own} {s r : Reply} (a : Place) → rise_to (Some n) p ≡ Some a → T (a ++ down) ≡ Some m →
-      Enters ways.goes T o p n a down i u → Proceeds ways language T u (a ++ down) (language.entry i) U v (Some s) → carried (Some n) p down s ≡ r → IsQuit r → Returns ways.goes U v p n a down s r w →
+      Enters ways.goes T o p n a down i u → Proceeds ways language T u (a ++ down) (language.entry i) U v (Some s) → returned T U (Some n) p down s ≡ r → IsQuit r → Returns ways.goes U v p n a down s r w →
       Proceeds ways language T o p (call (Some n) down i lost (finished k)) U w (Some r)
   calls_passed a e there x t f quit y = ended (leads.calls_passed a e there x (comes t) f quit y)
 
   -- the callee was given up, or its answer was lost
   pub calls_lost : {T U V : Tree Own} {o u v w : S} {p : Place} {n : ℕ} {down : Path} {i : Entry} {lost : Completion} {k : Completion → Program} {m : Node Own} {e : Ending} (a : Place) → rise_to (Some n) p ≡ Some a → T (a ++ down) ≡ Some m →
       Enters ways.goes T o p n a down i u → Proceeds ways language T u (a ++ down) (language.entry i) U v e → IsLoss ways.loses v w → Proceeds ways language T o p (call (Some n) down i lost (finished k)) V w None
-  calls_lost {T} {U} {V} {o} {u} {v} {w} {p} {n} {down} {i} {lost} {k} {m} {e} a r there x t l = by (entry_runs i there t)
+  calls_lost {T} {U} {V} {o} {u} {v} {w} {p} {n} {down} {i} {lost} {k} {m} {e} a r there x t l = by t
     where
-      by : {e : Ending} → Proceeds ways language T u (a ++ down) (entering language (T (a ++ down)) i) U v e → Proceeds ways language T o p (call (Some n) down i lost (finished k)) V w None
+      by : {e : Ending} → Proceeds ways language T u (a ++ down) (language.entry i) U v e → Proceeds ways language T o p (call (Some n) down i lost (finished k)) V w None
       by (given_up b g) = given_up (beginnings.calling a (a ++ down) r (ap (λ x. where_stands x (a ++ down)) there) (record { told = x.leaves }) (record { told = x.enters }) b) (lost_twice g l)
       by (ended t) = given_up (beginnings.calling a (a ++ down) r (ap (λ x. where_stands x (a ++ down)) there) (record { told = x.leaves }) (record { told = x.enters }) (beginnings.ended t)) l
 
   -- a call that is all that is left ends as it was answered
   pub calls_in : {T U : Tree Own} {o u v w : S} {p : Place} {n : ℕ} {down : Path} {i : Entry} {lost : Completion} {m : Node Own} {s r : Reply} (a : Place) → rise_to (Some n) p ≡ Some a → T (a ++ down) ≡ Some m →
-      Enters ways.goes T o p n a down i u → Proceeds ways language T u (a ++ down) (language.entry i) U v (Some s) → r ≡ carried (Some n) p down s → Returns ways.goes U v p n a down s r w →
+      Enters ways.goes T o p n a down i u → Proceeds ways language T u (a ++ down) (language.entry i) U v (Some s) → r ≡ returned T U (Some n) p down s → Returns ways.goes U v p n a down s r w →
       Proceeds ways language T o p (call (Some n) down i lost (finished done)) U w (Some r)
   calls_in a e there x t f y = ended (leads.calls_in a e there x (comes t) f y)
 
@@ -256,42 +256,68 @@ module _ {S : Type 0} {ways : Ways S} {language : Table Own Instr} where
   -- ## Calls that pass the top
 
   pub calls_out : {T V : Tree Own} {o u z : S} {p : Place} {h : Height} {down : Path} {i : Entry} {lost : Completion} {k : Said → Program} {e : Ending} → rise_to h p ≡ None →
-      ways.goes T o None (event p (Out h down i)) u → Proceeds ways language T u p (wait (Some (h, i)) k) V z e → Proceeds ways language T o p (call h down i lost k) V z e
+      ways.goes T o None (event p (Out h down i)) u → Proceeds ways language T u p (wait (Some (h, i, depth_of (T p))) (or_lost lost k)) V z e → Proceeds ways language T o p (call h down i lost k) V z e
   calls_out up g (ended t) = ended (executes.called_out up (record { told = g }) t)
   calls_out up g (given_up b l) = given_up (beginnings.called_out up (record { told = g }) b) l
 
-  -- the call that is waited for is answered by a completion, and the program goes on
-  pub answers_on : {T V : Tree Own} {o u z : S} {p : Place} {h : Height} {i : Entry} {k : Said → Program} {e : Ending} (c : Completion) → rise_to h p ≡ None → is_own h i (Replied (Completed c)) ≡ true →
-      ways.goes T o (Some (h, i)) (event p (Back h (Replied (Completed c)))) u → Proceeds ways language T u p (k (Finished c)) V z e → Proceeds ways language T o p (wait (Some (h, i)) k) V z e
+  -- The call that is waited for, which went out when d evaluations were in progress there, is answered
+  -- by a completion, and the program goes on.
+  pub answers_on : {T V : Tree Own} {o u z : S} {p : Place} {d : ℕ} {h : Height} {i : Entry} {k : Said → Program} {e : Ending} (c : Completion) → rise_to h p ≡ None → is_told (gone d T p) h i (Replied (Completed c)) ≡ true →
+      ways.goes T o (Some (h, i, d)) (event p (Back h (Replied (Completed c)))) u → Proceeds ways language T u p (k (Finished c)) V z e → Proceeds ways language T o p (wait (Some (h, i, d)) k) V z e
   answers_on c up own g (ended t) = ended (executes.answered up own (record { told = g }) t)
   answers_on c up own g (given_up b l) = given_up (beginnings.answered up own (record { told = g }) b) l
 
   -- what is no completion ends it
-  pub answers_passed : {T : Tree Own} {o u : S} {p : Place} {h : Height} {i : Entry} {k : Said → Program} {r : Reply} → IsQuit r → rise_to h p ≡ None → is_own h i (Replied r) ≡ true →
-      ways.goes T o (Some (h, i)) (event p (Back h (Replied r))) u → Proceeds ways language T o p (wait (Some (h, i)) k) T u (Some r)
+  pub answers_passed : {T : Tree Own} {o u : S} {p : Place} {d : ℕ} {h : Height} {i : Entry} {k : Said → Program} {r : Reply} → IsQuit r → rise_to h p ≡ None → is_told (gone d T p) h i (Replied r) ≡ true →
+      ways.goes T o (Some (h, i, d)) (event p (Back h (Replied r))) u → Proceeds ways language T o p (wait (Some (h, i, d)) k) T u (Some r)
   answers_passed quit up own g = ended (executes.answered_passed quit up own (record { told = g }))
 
   -- it is answered by a host's reply
-  pub hears_on : {T V : Tree Own} {o u z : S} {p : Place} {h : Height} {i : Entry} {k : Said → Program} {e : Ending} (a : HostReply) → rise_to h p ≡ None → is_own h i (Heard a) ≡ true →
-      ways.goes T o (Some (h, i)) (event p (Back h (Heard a))) u → Proceeds ways language T u p (k (Told a)) V z e → Proceeds ways language T o p (wait (Some (h, i)) k) V z e
+  pub hears_on : {T V : Tree Own} {o u z : S} {p : Place} {d : ℕ} {h : Height} {i : Entry} {k : Said → Program} {e : Ending} (a : HostReply) → rise_to h p ≡ None → is_told (gone d T p) h i (Heard a) ≡ true →
+      ways.goes T o (Some (h, i, d)) (event p (Back h (Heard a))) u → Proceeds ways language T u p (k (Told a)) V z e → Proceeds ways language T o p (wait (Some (h, i, d)) k) V z e
   hears_on a up own g (ended t) = ended (executes.heard up own (record { told = g }) t)
   hears_on a up own g (given_up b l) = given_up (beginnings.heard up own (record { told = g }) b) l
 
+  -- nobody is there who could answer it, and the program goes on
+  pub misses_on : {T V : Tree Own} {o u z : S} {p : Place} {d : ℕ} {h : Height} {i : Entry} {k : Said → Program} {e : Ending} → rise_to h p ≡ None → is_told (gone d T p) h i Nobody ≡ true →
+      ways.goes T o (Some (h, i, d)) (event p (Back h Nobody)) u → Proceeds ways language T u p (k Missed) V z e → Proceeds ways language T o p (wait (Some (h, i, d)) k) V z e
+  misses_on up own g (ended t) = ended (executes.missed up own (record { told = g }) t)
+  misses_on up own g (given_up b l) = given_up (beginnings.missed up own (record { told = g }) b) l
+
+  -- where the caller is gone, and the answer is a completion, a host's reply or none, it is ended by that
+  pub answers_gone : {T : Tree Own} {o u : S} {p : Place} {h : Height} {i : Entry} {k : Said → Program} (d n : ℕ) (a : Answer) → rise_to h p ≡ None → gone d T p ≡ Some n → told_to (Some n) a ≡ Replied (Stop n Gone) →
+      AnswersFor ways.goes T o p d h i u a → Proceeds ways language T o p (wait (Some (h, i, d)) k) T u (Some (Stop n Gone))
+  answers_gone {T} {o} {u} {p} {h} {i} {k} d n a up away same x = by (subst (λ (b : Answer). Answers ways.goes T o p d h i u b) same (subst (λ (g : Option ℕ). Answers ways.goes T o p d h i u (told_to g a)) away x))
+    where
+      by : Answers ways.goes T o p d h i u (Replied (Stop n Gone)) → Proceeds ways language T o p (wait (Some (h, i, d)) k) T u (Some (Stop n Gone))
+      by y = answers_passed tt up y.1 y.0
+
   -- an entry is handed in meanwhile, and done, and the program waits on
-  pub enters_on : {T U V : Tree Own} {o o1 o2 o3 z : S} {p : Place} {h : Height} {i : Entry} {k : Said → Program} {y : Reply} {e : Ending} (t : Path) (inner : Entry) → rise_to h p ≡ None →
-      ways.goes T o None (event t (In None inner)) o1 → Proceeds ways language T o1 t (entering language (T t) inner) U o2 (Some y) → ways.goes U o2 None (event t (Done None y)) o3 → IsNoExit y →
-      Proceeds ways language U o3 p (wait (Some (h, i)) k) V z e → Proceeds ways language T o p (wait (Some (h, i)) k) V z e
-  enters_on t inner up g (ended m) d stays (ended n) = ended (executes.entered t inner up (record { told = g }) m (record { told = d }) stays n)
-  enters_on t inner up g (ended m) d stays (given_up b l) = given_up (beginnings.entered t inner up (record { told = g }) m (record { told = d }) stays b) l
+  pub enters_on : {T U V : Tree Own} {o o1 o2 o3 z : S} {p : Place} {d : ℕ} {h : Height} {i : Entry} {k : Said → Program} {m : Node Own} {y : Reply} {e : Ending} (t : Path) (inner : Entry) → rise_to h p ≡ None → T t ≡ Some m →
+      ways.goes T o None (event t (In None inner)) o1 → Proceeds ways language T o1 t (language.entry inner) U o2 (Some y) → ways.goes U o2 None (event t (Done None y)) o3 → IsNoExit y →
+      Proceeds ways language U o3 p (wait (Some (h, i, d)) k) V z e → Proceeds ways language T o p (wait (Some (h, i, d)) k) V z e
+  enters_on t inner up there g (ended m) x stays (ended n) = ended (executes.entered t inner up there (record { told = g }) m (record { told = x }) stays n)
+  enters_on t inner up there g (ended m) x stays (given_up b l) = given_up (beginnings.entered t inner up there (record { told = g }) m (record { told = x }) stays b) l
+
+  -- one finds nobody, and is told that, and the program waits on
+  pub finds_nobody : {T V : Tree Own} {o u z : S} {p : Place} {d : ℕ} {h : Height} {i : Entry} {k : Said → Program} {e : Ending} (t : Path) (inner : Entry) → rise_to h p ≡ None → T t ≡ None →
+      ways.goes T o None (event [] (Unfound t inner (language.lost t))) u → Proceeds ways language T u p (wait (Some (h, i, d)) k) V z e → Proceeds ways language T o p (wait (Some (h, i, d)) k) V z e
+  finds_nobody t inner up none g (ended n) = ended (executes.unfound t inner up none (record { told = g }) n)
+  finds_nobody t inner up none g (given_up b l) = given_up (beginnings.unfound t inner up none (record { told = g }) b) l
 
   -- it ends by an exit, and the program with it
-  pub enters_exiting : {T U : Tree Own} {o o1 o2 o3 o4 : S} {p : Place} {h : Height} {i : Entry} {k : Said → Program} {n : ℤ} (t : Path) (inner : Entry) → rise_to h p ≡ None →
-      ways.goes T o None (event t (In None inner)) o1 → Proceeds ways language T o1 t (entering language (T t) inner) U o2 (Some (Exit n)) → ways.goes U o2 None (event t (Done None (Exit n))) o3 →
-      ways.goes U o3 (Some (h, i)) (event p (Back h (Replied (Exit n)))) o4 → Proceeds ways language T o p (wait (Some (h, i)) k) U o4 (Some (Exit n))
-  enters_exiting t inner up g (ended m) d back = ended (executes.entered_exiting t inner up (record { told = g }) m (record { told = d }) (record { told = back }))
+  pub enters_exiting : {T U : Tree Own} {o o1 o2 o3 o4 : S} {p : Place} {d : ℕ} {h : Height} {i : Entry} {k : Said → Program} {m : Node Own} {n : ℤ} (t : Path) (inner : Entry) → rise_to h p ≡ None → T t ≡ Some m →
+      ways.goes T o None (event t (In None inner)) o1 → Proceeds ways language T o1 t (language.entry inner) U o2 (Some (Exit n)) → ways.goes U o2 None (event t (Done None (Exit n))) o3 →
+      ways.goes U o3 (Some (h, i, d)) (event p (Back h (Replied (Exit n)))) o4 → Proceeds ways language T o p (wait (Some (h, i, d)) k) U o4 (Some (Exit n))
+  enters_exiting t inner up there g (ended m) x back = ended (executes.entered_exiting t inner up there (record { told = g }) m (record { told = x }) (record { told = back }))
 
   -- it is given up, or its end is not told
-  pub enters_lost : {T U V : Tree Own} {o o1 o2 z : S} {p : Place} {h : Height} {i : Entry} {k : Said → Program} {e : Ending} (t : Path) (inner : Entry) → rise_to h p ≡ None →
-      ways.goes T o None (event t (In None inner)) o1 → Proceeds ways language T o1 t (entering language (T t) inner) U o2 e → IsLoss ways.loses o2 z → Proceeds ways language T o p (wait (Some (h, i)) k) V z None
-  enters_lost t inner up g (ended m) l = given_up (beginnings.entering_in t inner up (record { told = g }) (beginnings.ended m)) l
-  enters_lost t inner up g (given_up b k) l = given_up (beginnings.entering_in t inner up (record { told = g }) b) (lost_twice k l)
+  pub enters_lost : {T U V : Tree Own} {o o1 o2 z : S} {p : Place} {d : ℕ} {h : Height} {i : Entry} {k : Said → Program} {m : Node Own} {e : Ending} (t : Path) (inner : Entry) → rise_to h p ≡ None → T t ≡ Some m →
+      ways.goes T o None (event t (In None inner)) o1 → Proceeds ways language T o1 t (language.entry inner) U o2 e → IsLoss ways.loses o2 z → Proceeds ways language T o p (wait (Some (h, i, d)) k) V z None
+  enters_lost t inner up there g (ended m) l = given_up (beginnings.entering_in t inner up there (record { told = g }) (beginnings.ended m)) l
+  enters_lost t inner up there g (given_up b k) l = given_up (beginnings.entering_in t inner up there (record { told = g }) b) (lost_twice k l)
+
+  -- An entry that finds nobody, of which the outside could not be told: nothing is said of how it
+  -- came into its state by handing it in, so this wants that it may have become what it is.
+  pub finds_nobody_lost : {T V : Tree Own} {o z : S} {p : Place} {d : ℕ} {h : Height} {i : Entry} {k : Said → Program} → IsLoss ways.loses o z → Proceeds ways language T o p (wait (Some (h, i, d)) k) V z None
+  finds_nobody_lost l = given_up beginnings.stopped l

@@ -1,10 +1,11 @@
 -- What stays as it is while an evaluation goes on.
-use Rattle.std.proofs.Common.{◌≡◌, ℕ, suc, pred, ◌<◌, ◌≤◌, Bool, true, false, [], ◌∷◌, ◌++◌, Option, Some, None, refl, sym, ap, subst, ◌∙◌, rules, arith, append_assoc, append-nil}
-use Rattle.std.specs.Prelude.{is_some, nat_le}
+use Rattle.std.proofs.Common.{◌≡◌, ℕ, zero, suc, pred, ◌<◌, ◌≤◌, Bool, true, false, [], ◌∷◌, ◌++◌, Option, Some, None, refl, sym, ap, subst, ◌∙◌, inl, inr, rules, arith, append_assoc, append-nil}
+use Rattle.std.specs.Prelude.{is_some, nat_le, ◌⊎◌}
+use Rattle.std.proofs.lemmas.Option.{same_Some}
 use Rattle.std.specs.Option.{option_map}
 use Rattle.std.proofs.lemmas.Bool.Decides.{nat_tests}
 use Rattle.tcl_core.specs.Paths.{Path, strip}
-use Rattle.tcl_core.specs.Trees.{Tree, Node, effect, at_end, where_some, with_own, counted, deeper, shallower, with_limit}
+use Rattle.tcl_core.specs.Trees.{Tree, Node, depth_of, effect, at_end, where_some, with_own, counted, deeper, shallower, with_limit}
 use Rattle.tcl_core.specs.Trees.What.{Changed, Charged, Nested, Unnested, Limited}
 use Rattle.tcl_core.proofs.PathLaws.{strip_own, strip-sound, not_both}
 use Rattle.tcl_core.specs.Lives.{count_at, limit_at}
@@ -14,12 +15,24 @@ use Rattle.slab.specs.Slab.{get}
 use Rattle.std.specs.Option.{option_and_then}
 use Rattle.tcl_tree.specs.Nodes.{follow}
 use Rattle.tcl_tree.specs.TreeOf.{tree_of, key_of, marks_of, Names}
-use Rattle.tcl_tree.proofs.CoreLemmas.{tree_there}
+use Rattle.tcl_tree.specs.Gone.{Holds, held_of}
+use Rattle.tcl_tree.specs.Held as holdings
+use Rattle.tcl_tree.specs.Held.{Deepens, IsInnermost, Over, Shallows, Stays, StoodAt}
+use Rattle.tcl_tree.proofs.PathLemmas.{snoc_ind}
+use Rattle.tcl_tree.proofs.CoreLemmas.{tree_gone, tree_there}
+use Rattle.tcl_tree.proofs.HeapLemmas.{last_step, one_path}
+use Rattle.tcl_tree.proofs.HeldLemmas.{depth_tree, follow_there, link-above, over_cases, over_path, same_above}
+use Rattle.tcl_tree.proofs.StayLemmas.{stays_around, stays_held, stays_innermost, stays_same, stays_then, stood_before}
 use Rattle.tcl_tree.proofs.StepLemmas.{follow_append}
+use Rattle.tcl_tree.proofs.WayLemmas.{follow_stood, gone_some}
+use Rattle.tcl_core.specs.Runs.{gone}
 use Rattle.tcl_tree.specs.declared.tree.Tree.{Tree as Table}
 use Rattle.tcl_tree.specs.declared.tree.Place.{Place as TablePlace}
-use Rattle.tcl_run.specs.Runs.{meters_of, meters_at, depth_in, depth_at, steps_at, is_root, InUse, IsCounted, IsHeld, IsSteady, IsLevel, IsAt, IsRunning, room}
+use Rattle.tcl_run.specs.Runs.{meters_of, meters_at, depth_in, depth_at, steps_at, is_root, InUse, IsCounted, IsHeld, IsHere, IsSteady, IsLevel, IsAt, IsRunning, room}
 use Rattle.tcl_text.specs.declared.integer.Integers.{Integers}
+use Rattle.tcl_frames.specs.Chain.{Chain}
+use Rattle.tcl_language.specs.Instructions.{with_chain}
+use Rattle.tcl_tree.specs.LendingTree.{HasFrames}
 
 pub meters_changed : (T U : Tree Own) (p q : Path) (own : Own) → U ≡ effect p (Changed own) T → meters_at U q ≡ meters_at T q
 meters_changed T U p q own e = ap (λ (V : Tree Own). meters_at V q) e ∙ by (strip p q) (T q)
@@ -189,15 +202,43 @@ line_there t p k at a b is = by (key_of t a) refl (sym (follow_append (get t.nod
 pub begun_at : (s t : Table) (place : TablePlace) (p : Path) → Names s place p → tree_of t ≡ effect p Nested (tree_of s) → InUse (tree_of t) p
 begun_at s t place p at e = begun (tree_of s) (tree_of t) p e (line_there s p place.key at)
 
+-- ## Who is in use, by its path and by its key
+
+pub depth_is : (T : Tree Own) (q : Path) → depth_at T q ≡ depth_of (T q)
+depth_is T q = by (T q)
+  where
+    by : (o : Option (Node Own)) → depth_in (option_map meters_of o) ≡ depth_of o
+    by None = refl
+    by (Some n) = refl
+
+pub depth_key : (t : Table) (q : Path) (k : ℕ) → key_of t q ≡ Some k → depth_at (tree_of t) q ≡ holdings.depth_at (held_of t k)
+depth_key t q k at = depth_is (tree_of t) q ∙ depth_tree (get t.nodes) t.root t.sound t.ordered q k at
+
+pub used_key : (t : Table) (q : Path) (k : ℕ) → key_of t q ≡ Some k → InUse (tree_of t) q → 1 ≤ holdings.depth_at (held_of t k)
+used_key t q k at used = let d = depth_key t q k at in let u = used q [] (append-nil q) in omega arith
+
+-- who stands above one has a key
+pub line_key : (t : Table) (p : Path) (k : ℕ) → key_of t p ≡ Some k → (a b : Path) → a ++ b ≡ p → (j : ℕ) × (key_of t a ≡ Some j)
+line_key t p k at a b is = by (key_of t a) refl (sym (follow_append (get t.nodes) a b t.root) ∙ ap (key_of t) is ∙ at)
+  where
+    by : (o : Option ℕ) → key_of t a ≡ o → option_and_then (λ c. follow (get t.nodes) c b) o ≡ Some k → (j : ℕ) × (key_of t a ≡ Some j)
+    by None e h = let x : None ≡ Some k = h in absurd cc
+    by (Some j) e h = (j, e)
+
+-- a place names one path
+pub same_path : (t : Table) (place : TablePlace) (p q : Path) → Names t place p → Names t place q → p ≡ q
+same_path t place p q at there = one_path (get t.nodes) t.root t.sound p q place.key at there
+
+-- ## However evaluations end
+
 pub steady-refl : (t : Table) → IsSteady t t
-steady-refl t = record { marks = refl; keys = λ q k at used. at; depths = λ q used. refl; counts = λ q used. search rules; top = refl; counted = counted-refl (tree_of t []) }
+steady-refl t = record { marks = refl; stays = stays_same (held_of t) (held_of t) (λ k. refl); counts = λ q k used at there. search rules; top = refl; counted = counted-refl (tree_of t []) }
 
 pub level_steady : (s t : Table) → IsLevel s t → IsSteady s t
 level_steady s t l = record {
   marks = l.marks;
-  keys = λ q k at used. l.keys q ∙ at;
-  depths = λ q used. ap depth_in (l.meters q);
-  counts = λ q used. l.counts q;
+  stays = stays_same (held_of s) (held_of t) l.held;
+  counts = λ q k used at there. l.counts q;
   top = ap depth_in (l.meters []);
   counted = l.counted;
 }
@@ -206,63 +247,196 @@ level_steady s t l = record {
 pub in_use_above : (T : Tree Own) (a b q : Path) → a ++ b ≡ q → InUse T q → InUse T a
 in_use_above T a b q is used = λ c d same. used c (d ++ b) (sym (append_assoc c d b) ∙ ap (λ (x : Path). x ++ b) same ∙ is)
 
-pub still_in_use : (s t : Table) (q : Path) → IsSteady s t → InUse (tree_of s) q → InUse (tree_of t) q
-still_in_use s t q h used = λ a b is. subst (λ (n : ℕ). 0 < n) (sym (h.depths a (in_use_above (tree_of s) a b q is used))) (used a b is)
+-- who was in use and stands later stood in between, under its key
+stood_between : (s t u : Table) → IsSteady s t → IsSteady t u → (q : Path) (k : ℕ) → InUse (tree_of s) q → key_of s q ≡ Some k → key_of u q ≡ Some k → key_of t q ≡ Some k
+stood_between s t u g h q k used at there =
+    let d = used_key s q k at used in
+    let x = g.stays.depth k in
+    let y = h.stays.depth k in
+    stood_before t u h.stays q k there (omega arith)
+
+-- the depths of those above one that stands, under its key, are those of their keys
+still_deep : (s t : Table) → IsSteady s t → (q : Path) (k : ℕ) → key_of s q ≡ Some k → key_of t q ≡ Some k → depth_at (tree_of t) q ≡ depth_at (tree_of s) q
+still_deep s t h q k at there = depth_key t q k there ∙ h.stays.depth k ∙ sym (depth_key s q k at)
+
+-- where one that was in use stands, all above it stand, under their keys
+line_kept : (s t : Table) → IsSteady s t → (b a p : Path) (key k : ℕ) → p ≡ a ++ b → key_of s p ≡ Some key → key_of t p ≡ Some key → 1 ≤ holdings.depth_at (held_of s key) → key_of s a ≡ Some k → key_of t a ≡ Some k
+line_kept s t h = snoc_ind (λ b. (a p : Path) (key k : ℕ) → p ≡ a ++ b → key_of s p ≡ Some key → key_of t p ≡ Some key → 1 ≤ holdings.depth_at (held_of s key) → key_of s a ≡ Some k → key_of t a ≡ Some k)
+    (λ a p key k is at there deep here.
+    let top : p ≡ a = is ∙ append-nil a in
+    let same : key ≡ k = same_Some _ _ (sym at ∙ ap (key_of s) top ∙ here) in
+    ap (key_of t) (sym top) ∙ there ∙ ap Some same)
+    (λ b m ih a p key k is at there deep here.
+    let whole : p ≡ (a ++ b) ++ m ∷ [] = is ∙ sym (append_assoc a b (m ∷ [])) in
+    let ls = last_step (get s.nodes) s.root (a ++ b) m key (ap (key_of s) (sym whole) ∙ at) in
+    let lt = last_step (get t.nodes) t.root (a ++ b) m key (ap (key_of t) (sym whole) ∙ there) in
+    let us = link-above (get s.nodes) key ls.parent m (s.sound.down ls.parent m key ls.child) in
+    let ut = link-above (get t.nodes) key lt.parent m (t.sound.down lt.parent m key lt.child) in
+    let same = same_above lt.parent ls.parent m m (sym ut ∙ h.stays.above key deep ∙ us) in
+    let d = s.ordered.depths key ls.parent m us in
+    ih a (a ++ b) ls.parent k refl ls.front (lt.front ∙ ap Some same.0) (omega arith) here)
 
 pub steady-trans : (s t u : Table) → IsSteady s t → IsSteady t u → IsSteady s u
 steady-trans s t u g h = record {
   marks = h.marks ∙ g.marks;
-  keys = λ q k at used. h.keys q k (g.keys q k at used) (still_in_use s t q g used);
-  depths = λ q used. h.depths q (still_in_use s t q g used) ∙ g.depths q used;
-  counts = λ q used. let a = g.counts q used in let b = h.counts q (still_in_use s t q g used) in omega arith;
+  stays = stays_then (held_of s) (held_of t) (held_of u) g.stays h.stays;
+  counts = λ q k used at there.
+      let between = stood_between s t u g h q k used at there in
+      let a = g.counts q k used at between in
+      let b = h.counts q k (used_on q k used at between) between there in
+      omega arith;
   top = h.top ∙ g.top;
   counted = counted-trans (tree_of s []) (tree_of t []) (tree_of u []) g.counted h.counted;
 }
+  where
+    used_on : (q : Path) (k : ℕ) → InUse (tree_of s) q → key_of s q ≡ Some k → key_of t q ≡ Some k → InUse (tree_of t) q
+    used_on q k used at between a b is =
+        let j = line_key s q k at a b is in
+        let there = line_kept s t g b a q k j.0 (sym is) at between (used_key s q k at used) j.1 in
+        let d = still_deep s t g a j.0 j.1 there in
+        let u = used a b is in
+        omega arith
 
-pub still_at : (s t : Table) (place : TablePlace) (p : Path) (style : Integers) → IsSteady s t → IsAt s place p style → IsAt t place p style
-still_at s t place p style h at = record {
-  names = h.keys p place.key at.names at.running;
-  style_is = ap (λ m. m.integers) h.marks ∙ at.style_is;
-  running = still_in_use s t p h at.running;
+-- by its path each is as deep as it was, or nothing is in progress there
+pub steady_depths : (s t : Table) → IsSteady s t → (q : Path) → (depth_at (tree_of t) q ≡ depth_at (tree_of s) q) ⊎ (depth_at (tree_of t) q ≡ 0)
+steady_depths s t h q = by (key_of t q) refl
+  where
+    deep : (k d : ℕ) → key_of t q ≡ Some k → holdings.depth_at (held_of t k) ≡ d → (depth_at (tree_of t) q ≡ depth_at (tree_of s) q) ⊎ (depth_at (tree_of t) q ≡ 0)
+    deep k zero at e = inr (depth_key t q k at ∙ e)
+    deep k (suc d) at e = inl (still_deep s t h q k (stood_before s t h.stays q k at (omega arith)) at)
+
+    by : (o : Option ℕ) → key_of t q ≡ o → (depth_at (tree_of t) q ≡ depth_at (tree_of s) q) ⊎ (depth_at (tree_of t) q ≡ 0)
+    by None e = inr (ap (λ (o : Option (Node Own)). depth_in (option_map meters_of o)) (tree_gone t q e))
+    by (Some k) e = deep k (holdings.depth_at (held_of t k)) e refl
+
+-- an evaluation that was in progress is so still, there or in one that is gone
+pub steady_holds : (s t : Table) (place : TablePlace) (p : Path) → IsSteady s t → Names s place p → InUse (tree_of s) p → Holds t place p (depth_of (tree_of s p))
+steady_holds s t place p h at used =
+    let d = sym (depth_is (tree_of s) p) ∙ depth_key s p place.key at in
+    let u = used_key s p place.key at used in
+    stays_held s t h.stays place p at u (depth_of (tree_of s p)) (omega arith) (omega arith)
+
+pub running_holds : (s : Table) (place : TablePlace) (p : Path) → Names s place p → InUse (tree_of s) p → Holds s place p (depth_of (tree_of s p))
+running_holds s place p at used = steady_holds s s place p (steady-refl s) at used
+
+-- an evaluation that isn't gone is in progress where its interpreter stood
+pub holds_named : (t : Table) (place : TablePlace) (p : Path) (d : ℕ) → Holds t place p d → gone d (tree_of t) p ≡ None → Names t place p
+holds_named t place p d h none = elim h.somewhere [
+  | inl named ↦ named
+  | inr away ↦ by (sym none) (gone_some t place p d away.0 away.1.highest h)
+]
+  where
+    by : {n : ℕ} → None ≡ gone d (tree_of t) p → Some n ≡ gone d (tree_of t) p → Names t place p
+    by {n} e f = let clash : Some n ≡ None = f ∙ sym e in absurd cc
+
+-- who is held stood at the path
+pub holds_stood : (t : Table) (place : TablePlace) (p : Path) (d : ℕ) → Holds t place p d → StoodAt (held_of t) place.key p
+holds_stood t place p d h = elim h.somewhere [
+  | inl named ↦ follow_stood (get t.nodes) t.root t.sound t.ordered p place.key named
+  | inr away ↦ away.1.stood
+]
+
+-- ## Where they came to a completion
+
+pub here-refl : (t : Table) (place : TablePlace) → IsHere t t place
+here-refl t place = record { marks = refl; keys = λ p a b k named is at. at; depths = λ p a b named is. refl; counts = λ p a b named is. search rules }
+
+-- the place is still that of the interpreter
+pub still_named : (s t : Table) (place : TablePlace) (p : Path) → IsHere s t place → Names s place p → Names t place p
+still_named s t place p h at = h.keys p p [] place.key at (append-nil p) at
+
+pub here-trans : (s t u : Table) (place : TablePlace) → IsHere s t place → IsHere t u place → IsHere s u place
+here-trans s t u place g h = record {
+  marks = h.marks ∙ g.marks;
+  keys = λ p a b k named is at. h.keys p a b k (still_named s t place p g named) is (g.keys p a b k named is at);
+  depths = λ p a b named is. h.depths p a b (still_named s t place p g named) is ∙ g.depths p a b named is;
+  counts = λ p a b named is. let x = g.counts p a b named is in let y = h.counts p a b (still_named s t place p g named) is in omega arith;
 }
 
-pub still_running : (s t : Table) (place : TablePlace) → IsSteady s t → IsRunning s place → IsRunning t place
-still_running s t place h r = (r.0, h.keys r.0 place.key r.1 r.2, still_in_use s t r.0 h r.2)
+pub level_here : (s t : Table) (place : TablePlace) → IsLevel s t → IsHere s t place
+level_here s t place l = record {
+  marks = l.marks;
+  keys = λ p a b k named is at. l.keys a ∙ at;
+  depths = λ p a b named is. ap depth_in (l.meters a);
+  counts = λ p a b named is. l.counts a;
+}
+
+-- where whoever was in use stands still, all above it do
+pub here_again : (s t : Table) (place : TablePlace) → IsSteady s t → ((p : Path) → Names s place p → InUse (tree_of s) p × Names t place p) → IsHere s t place
+here_again s t place h stands = record {
+  marks = h.marks;
+  keys = λ p a b k named is at. kept p a b k named is at;
+  depths = λ p a b named is. let j = line_key s p place.key named a b is in still_deep s t h a j.0 j.1 (kept p a b j.0 named is j.1);
+  counts = λ p a b named is.
+      let j = line_key s p place.key named a b is in
+      h.counts a j.0 (in_use_above (tree_of s) a b p is (stands p named).0) j.1 (kept p a b j.0 named is j.1);
+}
+  where
+    kept : (p a b : Path) (k : ℕ) → Names s place p → a ++ b ≡ p → key_of s a ≡ Some k → key_of t a ≡ Some k
+    kept p a b k named is at =
+        let n = stands p named in
+        line_kept s t h b a p place.key k (sym is) named n.1 (used_key s p place.key named n.0) at
+
+pub running_again : (s t : Table) (place : TablePlace) → IsSteady s t → IsRunning s place → ((p : Path) → Names s place p → Names t place p) → IsHere s t place
+running_again s t place h r stands = here_again s t place h (λ p at. (subst (λ (q : Path). InUse (tree_of s) q) (same_path s place r.0 p r.1 at) r.2, stands p at))
+
+-- where whoever called isn't gone, all above it stand still
+pub called_here : (s t : Table) (place : TablePlace) → IsSteady s t → IsRunning s place → ((p : Path) (d : ℕ) → Holds t place p d → Names t place p) → IsHere s t place
+called_here s t place h r stands = running_again s t place h r (λ p at. stands p (depth_of (tree_of s p)) (steady_holds s t place p h at (subst (λ (q : Path). InUse (tree_of s) q) (same_path s place r.0 p r.1 at) r.2)))
+
+pub still_in_use : (s t : Table) (place : TablePlace) (q : Path) → IsHere s t place → Names s place q → InUse (tree_of s) q → InUse (tree_of t) q
+still_in_use s t place q h named used = λ a b is. subst (λ (n : ℕ). 0 < n) (sym (h.depths q a b named is)) (used a b is)
+
+pub still_at : (s t : Table) (place : TablePlace) (p : Path) (style : Integers) → IsHere s t place → IsAt s place p style → IsAt t place p style
+still_at s t place p style h at = record {
+  names = still_named s t place p h at.names;
+  style_is = ap (λ m. m.integers) h.marks ∙ at.style_is;
+  running = still_in_use s t place p h at.names at.running;
+}
+
+pub still_running : (s t : Table) (place : TablePlace) → IsHere s t place → IsRunning s place → IsRunning t place
+still_running s t place h r = (r.0, still_named s t place r.0 h r.1, still_in_use s t place r.0 h r.1 r.2)
+
+-- ## Changes of own parts, and steps
 
 pub level-refl : (t : Table) → IsLevel t t
-level-refl t = record { marks = refl; keys = λ q. refl; meters = λ q. refl; counts = λ q. search rules; counted = counted-refl (tree_of t []) }
+level-refl t = record { marks = refl; keys = λ q. refl; held = λ k. refl; meters = λ q. refl; counts = λ q. search rules; counted = counted-refl (tree_of t []) }
 
 pub level-trans : (s t u : Table) → IsLevel s t → IsLevel t u → IsLevel s u
 level-trans s t u g h = record {
   marks = h.marks ∙ g.marks;
   keys = λ q. h.keys q ∙ g.keys q;
+  held = λ k. h.held k ∙ g.held k;
   meters = λ q. h.meters q ∙ g.meters q;
   counts = λ q. let a = g.counts q in let b = h.counts q in omega arith;
   counted = counted-trans (tree_of s []) (tree_of t []) (tree_of u []) g.counted h.counted;
 }
 
-pub same_level : (t u : Table) → marks_of u ≡ marks_of t → ((q : Path) → key_of u q ≡ key_of t q) → tree_of u ≡ tree_of t → IsLevel t u
-same_level t u marks keys same = record {
+pub same_level : (t u : Table) → marks_of u ≡ marks_of t → ((q : Path) → key_of u q ≡ key_of t q) → ((k : ℕ) → held_of u k ≡ held_of t k) → tree_of u ≡ tree_of t → IsLevel t u
+same_level t u marks keys held same = record {
   marks = marks;
   keys = keys;
+  held = held;
   meters = λ q. ap (λ (X : Tree Own). meters_at X q) same;
   counts = λ q. let e : steps_at (tree_of u) q ≡ steps_at (tree_of t) q = ap (λ (X : Tree Own). steps_at X q) same in omega arith;
   counted = same_counted (tree_of t []) (tree_of u []) (ap (λ (X : Tree Own). steps_of (X [])) same);
 }
 
-pub charged_level : (s t : Table) (p : Path) → marks_of t ≡ marks_of s → ((q : Path) → key_of t q ≡ key_of s q) → blocked is_spent (tree_of s) p ≡ None → tree_of t ≡ effect p Charged (tree_of s) → IsLevel s t
-charged_level s t p m k free e = record {
+pub charged_level : (s t : Table) (p : Path) → marks_of t ≡ marks_of s → ((q : Path) → key_of t q ≡ key_of s q) → ((k : ℕ) → held_of t k ≡ held_of s k) → blocked is_spent (tree_of s) p ≡ None → tree_of t ≡ effect p Charged (tree_of s) → IsLevel s t
+charged_level s t p m k held free e = record {
   marks = m;
   keys = k;
+  held = held;
   meters = λ q. meters_charged (tree_of s) (tree_of t) p q e;
   counts = λ q. steps_rise (tree_of s) (tree_of t) p q e;
   counted = counted_step (tree_of s) (tree_of t) p free e;
 }
 
-pub changed_level : (s t : Table) (p : Path) (own : Own) → marks_of t ≡ marks_of s → ((q : Path) → key_of t q ≡ key_of s q) → tree_of t ≡ effect p (Changed own) (tree_of s) → IsLevel s t
-changed_level s t p own m k e = record {
+pub changed_level : (s t : Table) (p : Path) (own : Own) → marks_of t ≡ marks_of s → ((q : Path) → key_of t q ≡ key_of s q) → ((k : ℕ) → held_of t k ≡ held_of s k) → tree_of t ≡ effect p (Changed own) (tree_of s) → IsLevel s t
+changed_level s t p own m k held e = record {
   marks = m;
   keys = k;
+  held = held;
   meters = λ q. meters_changed (tree_of s) (tree_of t) p q own e;
   counts = λ q. let a : steps_at (tree_of t) q ≡ steps_at (tree_of s) q = ap (λ x. x.0) (same q) in omega arith;
   counted = same_counted (tree_of s []) (tree_of t []) (same []);
@@ -271,50 +445,75 @@ changed_level s t p own m k e = record {
     same : (q : Path) → steps_of (tree_of t q) ≡ steps_of (tree_of s q)
     same q = ap (λ (X : Tree Own). steps_of (X q)) e ∙ steps_changed (tree_of s) p q own
 
--- an evaluation one level deeper, and back
-pub nested_steady : (s t u v : Table) (p : Path) →
-    marks_of t ≡ marks_of s → ((q : Path) → key_of t q ≡ key_of s q) → tree_of t ≡ effect p Nested (tree_of s) → IsSteady t u →
-    marks_of v ≡ marks_of u → ((q : Path) → key_of v q ≡ key_of u q) → tree_of v ≡ effect p Unnested (tree_of u) → IsSteady s v
-nested_steady s t u v p m1 k1 e1 h m2 k2 e2 = record {
-  marks = m2 ∙ h.marks ∙ m1;
-  keys = λ q k at used. k2 q ∙ h.keys q k (k1 q ∙ at) (deeper_in_use (tree_of s) (tree_of t) p q e1 used);
-  depths = λ q used. back_again (tree_of s) (tree_of t) (tree_of u) (tree_of v) p q e1 e2 (h.depths q (deeper_in_use (tree_of s) (tree_of t) p q e1 used));
-  counts = λ q used.
-      let a : steps_at (tree_of t) q ≡ steps_at (tree_of s) q = ap (λ x. x.0) (before q) in
-      let b = h.counts q (deeper_in_use (tree_of s) (tree_of t) p q e1 used) in
-      let d : steps_at (tree_of v) q ≡ steps_at (tree_of u) q = ap (λ x. x.0) (after q) in
-      omega arith;
-  top = back_again (tree_of s) (tree_of t) (tree_of u) (tree_of v) p [] e1 e2 h.top;
-  counted = counted-trans (tree_of s []) (tree_of t []) (tree_of v []) (same_counted (tree_of s []) (tree_of t []) (before []))
-      (counted-trans (tree_of t []) (tree_of u []) (tree_of v []) h.counted (same_counted (tree_of u []) (tree_of v []) (after [])));
-}
-  where
-    before : (q : Path) → steps_of (tree_of t q) ≡ steps_of (tree_of s q)
-    before q = ap (λ (X : Tree Own). steps_of (X q)) e1 ∙ steps_nested (tree_of s) p q
+-- ## An evaluation one level deeper, and back
 
-    after : (q : Path) → steps_of (tree_of v q) ≡ steps_of (tree_of u q)
-    after q = ap (λ (X : Tree Own). steps_of (X q)) e2 ∙ steps_unnested (tree_of u) p q
+-- It begins in the interpreter at p, and others go on until control is there again.
+module _ (s t u : Table) (place : TablePlace) (p : Path) (named : Names s place p) (keys₁ : (q : Path) → key_of t q ≡ key_of s q)
+    (deep : Deepens (held_of s) place.key (held_of t)) (nested : tree_of t ≡ effect p Nested (tree_of s)) (h : IsSteady t u) where
+  over_or_not : (a : ℕ) → Over (held_of s) a place.key ⊎ (Over (held_of s) a place.key → Prim.⊥)
+  over_or_not a = over_cases (get s.nodes) s.root s.ordered a place.key
+
+  over_there : (a : ℕ) → Over (held_of s) a place.key → is_some (held_of s a) ≡ true
+  over_there a w =
+      let q = over_path (get s.nodes) s.root s.ordered s.sound a p place.key named w in
+      follow_there (get s.nodes) s.root s.sound s.ordered q.0 a q.2
+
+  pub nested_used : InUse (tree_of t) p
+  nested_used = begun_at s t place p named nested
+
+  -- it is in progress still, there or in one that is gone
+  pub nested_holds : Holds u place p 1
+  nested_holds =
+      let d = used_key t p place.key (keys₁ p ∙ named) nested_used in
+      stays_held t u h.stays place p (keys₁ p ∙ named) d 1 (omega arith) d
+
+  -- and it is the last one that began there
+  pub nested_innermost : IsInnermost (held_of u) place.key
+  nested_innermost = stays_innermost (held_of s) (held_of t) (held_of u) s.ordered.depths place.key over_there over_or_not deep h.stays
+
+  module _ (v : Table) (keys₂ : (q : Path) → key_of v q ≡ key_of u q) (shallow : Shallows (held_of u) place.key (held_of v)) (unnested : tree_of v ≡ effect p Unnested (tree_of u)) where
+    steps_before : (q : Path) → steps_of (tree_of t q) ≡ steps_of (tree_of s q)
+    steps_before q = ap (λ (X : Tree Own). steps_of (X q)) nested ∙ steps_nested (tree_of s) p q
+
+    steps_after : (q : Path) → steps_of (tree_of v q) ≡ steps_of (tree_of u q)
+    steps_after q = ap (λ (X : Tree Own). steps_of (X q)) unnested ∙ steps_unnested (tree_of u) p q
+
+    -- no count falls that didn't while it went on
+    steps_around : (q : Path) → steps_at (tree_of t) q ≤ steps_at (tree_of u) q → steps_at (tree_of s) q ≤ steps_at (tree_of v) q
+    steps_around q l =
+        let x : steps_at (tree_of t) q ≡ steps_at (tree_of s) q = ap (λ y. y.0) (steps_before q) in
+        let z : steps_at (tree_of v) q ≡ steps_at (tree_of u) q = ap (λ y. y.0) (steps_after q) in
+        omega arith
+
+    pub nested_steady : marks_of t ≡ marks_of s → marks_of v ≡ marks_of u → IsSteady s v
+    nested_steady m1 m2 = record {
+      marks = m2 ∙ h.marks ∙ m1;
+      stays = stays_around (held_of s) (held_of t) (held_of u) s.ordered.depths place.key over_there over_or_not deep h.stays s.ordered.used (held_of v) shallow;
+      counts = λ q k used at there. steps_around q (h.counts q k (deeper_in_use (tree_of s) (tree_of t) p q nested used) (keys₁ q ∙ at) (sym (keys₂ q) ∙ there));
+      top = back_again (tree_of s) (tree_of t) (tree_of u) (tree_of v) p [] nested unnested h.top;
+      counted = counted-trans (tree_of s []) (tree_of t []) (tree_of v []) (same_counted (tree_of s []) (tree_of t []) (steps_before []))
+          (counted-trans (tree_of t []) (tree_of u []) (tree_of v []) h.counted (same_counted (tree_of u []) (tree_of v []) (steps_after [])));
+    }
+
+    -- where it came to a completion, its interpreter stands still
+    pub nested_here : marks_of t ≡ marks_of s → marks_of v ≡ marks_of u → IsHere t u place → IsHere s v place
+    nested_here m1 m2 g = record {
+      marks = m2 ∙ g.marks ∙ m1;
+      keys = λ q a b k at is there. keys₂ a ∙ g.keys q a b k (keys₁ q ∙ at) is (keys₁ a ∙ there);
+      depths = λ q a b at is. back_again (tree_of s) (tree_of t) (tree_of u) (tree_of v) p a nested unnested (g.depths q a b (keys₁ q ∙ at) is);
+      counts = λ q a b at is. steps_around a (g.counts q a b (keys₁ q ∙ at) is);
+    }
+
+    -- those at the place and above it, in use or not before
+    pub nested_held : IsHeld s v p
+    nested_held = record {
+      counts = λ a b k is at there. steps_around a (h.counts a k (in_use_above (tree_of t) a b p is nested_used) (keys₁ a ∙ at) (sym (keys₂ a) ∙ there));
+    }
 
 -- ## Who is held
 
 pub level_held : (s t : Table) (p : Path) → IsLevel s t → IsHeld s t p
-level_held s t p l = record { keys = λ a b k is at. l.keys a ∙ at; counts = λ a b is. l.counts a }
-
--- those at the place of an evaluation one level deeper, and above it
-pub nested_held : (s t u v : Table) (place : TablePlace) (p : Path) → Names s place p →
-    ((q : Path) → key_of t q ≡ key_of s q) → tree_of t ≡ effect p Nested (tree_of s) → IsSteady t u →
-    ((q : Path) → key_of v q ≡ key_of u q) → tree_of v ≡ effect p Unnested (tree_of u) → IsHeld s v p
-nested_held s t u v place p at k1 e1 h k2 e2 = record {
-  keys = λ a b k is there. k2 a ∙ h.keys a k (k1 a ∙ there) (used a b is);
-  counts = λ a b is.
-      let x : steps_at (tree_of t) a ≡ steps_at (tree_of s) a = ap (λ y. y.0) (ap (λ (X : Tree Own). steps_of (X a)) e1 ∙ steps_nested (tree_of s) p a) in
-      let y = h.counts a (used a b is) in
-      let z : steps_at (tree_of v) a ≡ steps_at (tree_of u) a = ap (λ y. y.0) (ap (λ (X : Tree Own). steps_of (X a)) e2 ∙ steps_unnested (tree_of u) p a) in
-      omega arith;
-}
-  where
-    used : (a b : Path) → a ++ b ≡ p → InUse (tree_of t) a
-    used a b is = in_use_above (tree_of t) a b p is (begun_at s t place p at e1)
+level_held s t p l = record { counts = λ a b k is at there. l.counts a }
 
 -- an own part that becomes what it was leaves the tree as it was
 pub changed_same : (T : Tree Own) (p : Path) (n : Node Own) → T p ≡ Some n → effect p (Changed n.own) T ≡ T
@@ -337,3 +536,9 @@ stands (Some a) e = (a, refl)
 pub still_stands : (T : Tree Own) (l : Option ℕ) (p : Path) (n : Node Own) → T p ≡ Some n → (m : Node Own) × (effect [] (Limited l) T p ≡ Some m)
 still_stands T l [] n e = (record n { limit = l }, ap (with_limit l) e)
 still_stands T l (x ∷ p) n e = (n, e)
+
+-- other frames that were lent and given back
+pub lent_level : (s t : Table) (place : TablePlace) (p : Path) (chain : Chain) → Names s place p → HasFrames s t p chain → IsLevel s t
+lent_level s t place p chain at held =
+    let n = stands (tree_of s p) (tree_there s p place.key at) in
+    changed_level s t p (with_chain n.0.own chain) held.marks held.keys held.held (held.tree n.0 n.1)

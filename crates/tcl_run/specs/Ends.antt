@@ -52,6 +52,16 @@ Breaks (interruption.Cut c) P = P (Some (Cut (cause_of c)))
 abbrev pub IfRan : Result (List ℕ) Interruption → (Ending → Type 0) → Type 0
 IfRan r P = MatchResult r (λ text. P (Some (Completed (ok text)))) (λ i. Breaks i P)
 
+-- what is said where an evaluation is ended by a completion
+abbrev pub Completes : Interruption → Type 0 → Type 0
+Completes (interruption.Completed c) P = P
+Completes i P = Unit {0}
+
+-- What is said where an evaluation came to a completion, an ordinary one or another. Whoever is
+-- gone is told none, so where there is one its interpreter stands.
+abbrev pub OnCompletion : {A : Type 0} → Result A Interruption → Type 0 → Type 0
+OnCompletion r P = MatchResult r (λ a. P) (λ i. Completes i P)
+
 -- no memory was wanted, and this holds of the end
 abbrev pub Says : Interruption → (Reply → Type 0) → Type 0
 Says interruption.Memory P = ⊥
@@ -102,8 +112,8 @@ Stays _ = Unit {0}
 
 -- what becomes of an evaluation that the depth limit of the interpreter so many levels up refuses
 abbrev pub too_deep_at : ℕ → Reply
-too_deep_at zero = Completed (core.refusal core.Depth)
-too_deep_at (suc n) = Stop (suc n) core.Depth
+too_deep_at zero = Completed (core.refusal (core.Full core.Depth))
+too_deep_at (suc n) = Stop (suc n) (core.Full core.Depth)
 
 -- the end is an ordinary completion with this text
 abbrev pub IsText : Result (List ℕ) Interruption → List ℕ → Type 0

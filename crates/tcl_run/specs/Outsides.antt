@@ -1,14 +1,15 @@
 -- What contracts see of what stands outside of a tree.
-use Rattle.std.specs.Prelude.{◌≡◌, ℕ, true, [], ◌++◌, length, Some, None, Result, Ok, Err}
-use Rattle.tcl_core.specs.Endings.{Reply, error, ok}
-use Rattle.tcl_core.specs.Endings.Reply.{Completed}
+use Rattle.std.specs.Prelude.{◌≡◌, ℕ, true, ◌++◌, length, Option, Some, None, Result, Ok, Err}
+use Rattle.tcl_core.specs.Endings.{Reply, ok}
+use Rattle.tcl_core.specs.Endings.Kind.{Gone}
+use Rattle.tcl_core.specs.Endings.Reply.{Completed, Stop}
 use Rattle.tcl_core.specs.Entries.{Answer, Entry, HostReply}
-use Rattle.tcl_core.specs.Entries.Answer.{Replied, Heard}
+use Rattle.tcl_core.specs.Entries.Answer.{Replied, Heard, Nobody}
 use Rattle.tcl_core.specs.Entries.Entry.{AskHost}
 use Rattle.tcl_core.specs.Entries.HostReply.{Opened, Line, TheEnd, TheRest, Accepted, Is, Fails}
 use Rattle.tcl_core.specs.Paths.{Path, Place, Height}
 use Rattle.tcl_core.specs.Programs.{Wait}
-use Rattle.tcl_core.specs.Runs.{is_own}
+use Rattle.tcl_core.specs.Runs.{ended, gone, is_told}
 use Rattle.tcl_core.specs.Execution.{event, past_top}
 use Rattle.tcl_core.specs.Trees.{Event, Tree, What}
 use Rattle.tcl_core.specs.Trees.What.{Out, In, Done, Back, Refused}
@@ -17,9 +18,8 @@ use Rattle.tcl_host.specs.declared.reply.HostReply.TheVariants as theirs
 use Rattle.tcl_host.specs.declared.reply.HostRefusal.{HostRefusal}
 use Rattle.tcl_host.specs.declared.reply.HostRefusal.TheVariants as refusal
 use Rattle.tcl_host.specs.declared.request.Request.{Request as TheirRequest}
-use Rattle.tcl_language.specs.Interpreters.{no_interpreter}
 use Rattle.tcl_run.specs.Ends.{Interrupts}
-use Rattle.tcl_run.specs.Entering.{request_of, whole_entry}
+use Rattle.tcl_run.specs.Entering.{handed, request_of, whole_entry}
 use Rattle.tcl_run.specs.declared.interruption.Interruption.{Interruption}
 use Rattle.tcl_run.specs.declared.outside.Turn.{Turn}
 use Rattle.tcl_run.specs.declared.outside.Turn.TheVariants as turn
@@ -58,10 +58,24 @@ pub record Misses {S : Type 0} (goes : Going S) (T : Tree Own) (o : S) (p : Plac
 
 -- ## Calls that pass the top
 
--- the call from p, so high up and for this, is answered so
-abbrev pub Answers : {S : Type 0} → Going S → Tree Own → S → Path → Height → Entry → S → Answer →
-    Type 0
-Answers goes T o p h i z a = goes T o (Some (h, i)) (event p (Back h a)) z × (is_own h i a ≡ true)
+-- What a caller is told for an answer, where it is gone or isn't: one that is gone is told of no
+-- completion, of no word of the host, and not that nobody is there.
+abbrev pub told_to : Option ℕ → Answer → Answer
+told_to None a = a
+told_to (Some n) (Replied r) = Replied (ended (Some n) r)
+told_to (Some n) a = Replied (Stop n Gone)
+
+-- The call from p, so high up and for this, that went out when d evaluations were in progress
+-- there, is answered so.
+abbrev pub Answers : {S : Type 0} → Going S → Tree Own → S → Path → ℕ → Height → Entry → S →
+    Answer → Type 0
+Answers goes T o p d h i z a = goes T o (Some (h, i, d)) (event p (Back h a)) z ×
+    (is_told (gone d T p) h i a ≡ true)
+
+-- it is answered by this, or by what its caller is told for it
+abbrev pub AnswersFor : {S : Type 0} → Going S → Tree Own → S → Path → ℕ → Height → Entry → S →
+    Answer → Type 0
+AnswersFor goes T o p d h i z a = Answers goes T o p d h i z (told_to (gone d T p) a)
 
 -- the numbers of a host's refusals
 abbrev pub number_of : HostRefusal → ℕ
@@ -86,17 +100,18 @@ IsAsked None i = Prim.⊥
 IsAsked (Some n) i = Unit {0}
 
 -- What comes next while the call is open: an entry, where this outside hands in any; or the call's
--- answer.
-abbrev pub ComesNext : {S : Type 0} → Going S → Type 0 → Tree Own → S → Path → Height → Entry → S →
-    Result Turn Interruption → Type 0
-ComesNext goes hands_in T o p h i z (Ok (turn.Entry target entry)) = goes T o None
-    (event target.items (In None (whole_entry entry))) z × hands_in
-ComesNext goes hands_in T o p h i z (Ok (turn.Completed text)) = Answers goes T o p h i z
+-- answer, of which a caller that is gone is told what it may be.
+abbrev pub ComesNext : {S : Type 0} → Going S → Type 0 → Tree Own → S → Path → ℕ → Height → Entry →
+    S → Result Turn Interruption → Type 0
+ComesNext goes hands_in T o p d h i z (Ok (turn.Entry target entry)) = goes T o None
+    (event target.items (In None (handed target.items (whole_entry entry)))) z × hands_in
+ComesNext goes hands_in T o p d h i z (Ok (turn.Completed text)) = AnswersFor goes T o p d h i z
     (Replied (Completed (ok text)))
-ComesNext goes hands_in T o p h i z (Ok (turn.Heard reply)) = Answers goes T o p h i z
+ComesNext goes hands_in T o p d h i z (Ok (turn.Heard reply)) = AnswersFor goes T o p d h i z
     (Heard (reply_of reply))
-ComesNext goes hands_in T o p h i z (Err e) = Interrupts e
-    (λ r. Answers goes T o p h i z (Replied r))
+ComesNext goes hands_in T o p d h i z (Ok turn.Nobody) = AnswersFor goes T o p d h i z Nobody
+ComesNext goes hands_in T o p d h i z (Err e) = Interrupts e
+    (λ r. AnswersFor goes T o p d h i z (Replied r))
 
 -- what is said where an entry comes next
 abbrev pub OnEntry : Result Turn Interruption → Type 0 → Type 0
@@ -105,14 +120,16 @@ OnEntry r P = Unit {0}
 
 -- ## A host as the outside
 
--- The host makes a step for each request by its reply. It hands in nothing, and above the tree no
--- interpreter is.
+-- The host makes a step for each request by its reply, which a caller that is gone isn't told. It
+-- hands in nothing, and above the tree no interpreter is.
 abbrev pub hosted_by : {S : Type 0} → (S → TheirRequest → TheirReply → S → Type 0) → S → Wait →
     What Own → S → Type 0
-hosted_by step o (Some (None, AskHost request)) (Back h (Heard a)) u = (q : TheirRequest) ×
+hosted_by step o (Some (None, AskHost request, d)) (Back h (Heard a)) u = (q : TheirRequest) ×
     (reply : TheirReply) × (request_of q ≡ request) × (reply_of reply ≡ a) × step o q reply u
-hosted_by step o (Some (Some up, i)) (Back h (Replied r)) u = (u ≡ o) ×
-    (r ≡ Completed (error (no_interpreter [])))
+hosted_by step o (Some (None, AskHost request, d)) (Back h (Replied (Stop n Gone))) u =
+    (q : TheirRequest) × (reply : TheirReply) × (request_of q ≡ request) × step o q reply u
+hosted_by step o (Some (Some up, i, d)) (Back h Nobody) u = u ≡ o
+hosted_by step o (Some (Some up, i, d)) (Back h (Replied (Stop n Gone))) u = u ≡ o
 hosted_by step o s (Out h down i) u = u ≡ o
 hosted_by step o s (Done h r) u = u ≡ o
 hosted_by step o s _ u = Prim.⊥

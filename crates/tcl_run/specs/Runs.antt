@@ -7,6 +7,7 @@ use Rattle.tcl_core.specs.Paths.{Place, Path}
 use Rattle.tcl_core.specs.Endings.{Reply}
 use Rattle.tcl_core.specs.Endings.Cause.{Above}
 use Rattle.tcl_core.specs.Endings.Reply.{Stop, Cut}
+use Rattle.tcl_core.specs.Endings.Kind.{Full}
 use Rattle.tcl_core.specs.Endings.Meter.{Count}
 use Rattle.tcl_core.specs.Lives.{count_at, limit_at}
 use Rattle.tcl_core.specs.Programs.{blocked, is_spent, limit_or}
@@ -17,6 +18,8 @@ use Rattle.tcl_core.specs.Trees.{Tree, Node, effect}
 use Rattle.tcl_core.specs.Trees.What.{Changed, Charged, Refused}
 use Rattle.tcl_frames.specs.Chain.{Chain}
 use Rattle.tcl_variables.specs.declared.fault.FrameFault.{FrameFault}
+use Rattle.tcl_tree.specs.Gone.{held_of}
+use Rattle.tcl_tree.specs.Held.{Stays}
 use Rattle.tcl_tree.specs.Own.{Own}
 use Rattle.tcl_tree.specs.TreeOf.{tree_of, key_of, marks_of, Names}
 use Rattle.tcl_tree.specs.declared.tree.Tree as table
@@ -102,38 +105,49 @@ pub record IsCounted (old new : Option (Node Own)) : Type 0 where
   pub within : is_root old ≡ true → (b : ℕ) → limit_or (limit_at old) ≤ b → count_at old ≤ b →
       count_at new ≤ b
 
--- What an evaluation leaves as it is: what is in use keeps its key and its depth, and its count
--- doesn't fall.
+-- What an evaluation leaves as it is, however it ends. Who is in use stays so under its key, as
+-- deeply and below the same one, and stands, or is gone; who was gone is gone; and in whom nothing
+-- was in progress nothing is. No count falls of one that was in use and stands.
 pub record IsSteady (old new : table.Tree) : Type 0 where
   pub marks : marks_of new ≡ marks_of old
-  pub keys : (q : Path) (k : ℕ) → key_of old q ≡ Some k → InUse (tree_of old) q →
-      key_of new q ≡ Some k
-  pub depths : (q : Path) → InUse (tree_of old) q →
-      depth_at (tree_of new) q ≡ depth_at (tree_of old) q
-  pub counts : (q : Path) → InUse (tree_of old) q →
-      steps_at (tree_of old) q ≤ steps_at (tree_of new) q
-  -- and the top its depth, in use or not, since that measures how much deeper an evaluation can go
+  pub stays : Stays (held_of old) (held_of new)
+  pub counts : (q : Path) (k : ℕ) → InUse (tree_of old) q → key_of old q ≡ Some k →
+      key_of new q ≡ Some k → steps_at (tree_of old) q ≤ steps_at (tree_of new) q
+  -- the top keeps its depth, in use or not: that measures how much deeper an evaluation can go
   pub top : depth_at (tree_of new) [] ≡ depth_at (tree_of old) []
   pub counted : IsCounted (tree_of old []) (tree_of new [])
 
--- Who stands at the place, and all above it, in whom an evaluation was in progress meanwhile: they
--- stand there still, and no count of theirs falls.
+-- What an evaluation in the interpreter that the place names leaves as it is where it came to a
+-- completion: that interpreter, and each above it, stands where it stood, by its key, and is in use
+-- as deeply; and no count of theirs falls.
+pub record IsHere (old new : table.Tree) (place : table_place.Place) : Type 0 where
+  pub marks : marks_of new ≡ marks_of old
+  pub keys : (p a b : Path) (k : ℕ) → Names old place p → a ++ b ≡ p → key_of old a ≡ Some k →
+      key_of new a ≡ Some k
+  pub depths : (p a b : Path) → Names old place p → a ++ b ≡ p →
+      depth_at (tree_of new) a ≡ depth_at (tree_of old) a
+  pub counts : (p a b : Path) → Names old place p → a ++ b ≡ p →
+      steps_at (tree_of old) a ≤ steps_at (tree_of new) a
+
+-- Who stood at the place, and all above it, in whom an evaluation was in progress meanwhile: no
+-- count falls of those that stand there still.
 pub record IsHeld (old new : table.Tree) (p : Place) : Type 0 where
-  pub keys : (a b : Path) (k : ℕ) → a ++ b ≡ p → key_of old a ≡ Some k → key_of new a ≡ Some k
-  pub counts : (a b : Path) → a ++ b ≡ p → steps_at (tree_of old) a ≤ steps_at (tree_of new) a
+  pub counts : (a b : Path) (k : ℕ) → a ++ b ≡ p → key_of old a ≡ Some k → key_of new a ≡ Some k →
+      steps_at (tree_of old) a ≤ steps_at (tree_of new) a
 
 -- What a change of own parts, or of counts, leaves as it is: all keys, and all depths with their
--- limits. No count falls.
+-- limits, those of the gone included. No count falls.
 pub record IsLevel (old new : table.Tree) : Type 0 where
   pub marks : marks_of new ≡ marks_of old
   pub keys : (q : Path) → key_of new q ≡ key_of old q
+  pub held : (k : ℕ) → held_of new k ≡ held_of old k
   pub meters : (q : Path) → meters_at (tree_of new) q ≡ meters_at (tree_of old) q
   pub counts : (q : Path) → steps_at (tree_of old) q ≤ steps_at (tree_of new) q
   pub counted : IsCounted (tree_of old []) (tree_of new [])
 
--- What any evaluation leaves as it is, however it ends: what is in use keeps its key and its depth,
--- and its count doesn't fall; the root's limit bounds the root's count; and the outside may hand in
--- no more entries than before.
+-- What any evaluation leaves as it is, however it ends: who is in use stays so, or is gone; the
+-- root's limit bounds the root's count; and the outside may hand in no more entries than before.
+-- (That its own interpreter stands where it came to a completion is said by `IsHere` besides.)
 pub record Keeps {S : Type 0} (entries : S → ℕ) (old new : table.Tree) (o z : S) : Type 0 where
   pub steady : IsSteady old new
   pub left : entries z ≤ entries o
@@ -162,7 +176,7 @@ pub record Counts {S : Type 0} (goes : Going S) (T : Tree Own) (o : S) (p : Plac
 pub data RefusesStep {S : Type 0} (goes : Going S) (T : Tree Own) (o : S) (p : Place)
     (U : Tree Own) : S → Reply → Type 0 where
   by_limit : (levels : ℕ) → blocked is_spent T p ≡ Some levels → U ≡ T →
-      RefusesStep goes T o p U o (Stop levels Count)
+      RefusesStep goes T o p U o (Stop levels (Full Count))
   from_outside : {z : S} → blocked is_spent T p ≡ None → U ≡ T →
       goes T o None (event p (Refused Count None)) z → RefusesStep goes T o p U z (Cut Above)
 

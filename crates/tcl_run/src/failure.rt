@@ -1,8 +1,9 @@
 //! The errors of scripts.
-ghost use Rattle.std.specs.Prelude.{◌≡◌, ◌++◌, [], codes};
+ghost use Rattle.std.specs.Prelude.{◌≡◌, ◌++◌, [], IfOk, codes};
 ghost use Rattle.tcl_language.specs.Faults as faults;
 ghost use Rattle.tcl_language.specs.Interpreters as interpreters;
 ghost use Rattle.tcl_language.specs.Interpreters.{no_interpreter};
+ghost use Rattle.tcl_text.specs.Writing.{written_list};
 ghost use Rattle.tcl_variables.specs.Messages.{quoted};
 ghost use Rattle.tcl_core.specs.Endings as core;
 ghost use Rattle.tcl_core.specs.Endings.Reply.{Completed};
@@ -10,9 +11,10 @@ ghost use Rattle.tcl_language.specs.Instructions as language;
 ghost use Rattle.tcl_run.specs.Ends.{Interrupts, WordsTell, failing, too_deep_at};
 
 use crate::interruption::Interruption;
-use std::alloc::Global;
+use std::alloc::{AllocError, Global};
 use tcl_flow::completion;
 use tcl_flow::stop::{Stop, StopKind};
+use tcl_text::list::write_list;
 use tcl_text::messages::{ALREADY_EXISTS, DENIED, TOO_LONG};
 use tcl_text::text::Text;
 use tcl_value::value::Value;
@@ -145,6 +147,23 @@ pub fn no_interpreter(alloc: Global, path: &str) -> Interruption
     ensures { Interrupts result (λ e. e ≡ Completed (failing (no_interpreter path.now))) }
 {
     failure_about(alloc, "could not find interpreter ", path)
+}
+
+/// The text of a path: its names as a list.
+fn path_text(alloc: Global, path: &[Text]) -> Result<Text, AllocError>
+    ensures { IfOk result (λ text. text ≡ written_list path.now) }
+{
+    Text::from_string(alloc, write_list(alloc, path)?)
+}
+
+/// Nobody is at the path for which an entry was handed in.
+pub fn nobody_at(alloc: Global, path: &[Text]) -> Interruption
+    ensures { Interrupts result (λ e. e ≡ Completed (interpreters.nobody_at path.now)) }
+{
+    match path_text(alloc, path) {
+        Ok(text) => no_interpreter(alloc, text.as_str()),
+        Err(_) => Interruption::Memory,
+    }
 }
 
 /// The target of an alias that was called so isn't there.

@@ -11,11 +11,11 @@ ghost use Rattle.tcl_run.specs.Ends.{WhereMemory};
 ghost use Rattle.tcl_run.specs.Entering.{whole_entry};
 ghost use Rattle.tcl_run.specs.Notifying.{Notified};
 ghost use Rattle.tcl_run.specs.Outsides.{ComesNext, IsAsked, OnEntry, hosted};
+ghost use Rattle.tcl_tree.specs.Gone.{Holds};
 ghost use Rattle.tcl_tree.specs.Own.{Own};
-ghost use Rattle.tcl_tree.specs.TreeOf.{tree_of, Names};
+ghost use Rattle.tcl_tree.specs.TreeOf.{tree_of};
 
 use crate::entry::Entry;
-use crate::failure::no_interpreter;
 use crate::interruption::Interruption;
 use std::alloc::{AllocError, Global};
 use tcl_host::host::{Host, ask};
@@ -33,6 +33,8 @@ pub enum Turn {
     Completed(Value),
     /// What the host says to a request.
     Heard(HostReply),
+    /// Nobody is there who could answer the call, which isn't the host's.
+    Nobody,
 }
 
 /// What an outside is told of: what happened in the tree, or at its top.
@@ -56,7 +58,8 @@ pub enum Happening<'a> {
         /// What is asked for there.
         entry: &'a Entry,
     },
-    /// The caller's call is done there by one end, and answered by another.
+    /// The caller's call is done there by one end, and answered by another: by what that end is to
+    /// the caller, which may be gone.
     Returned {
         /// The interpreter that called.
         caller: Place,
@@ -100,9 +103,18 @@ pub enum Happening<'a> {
         /// How the entry ended.
         ended: &'a Result<Value, Interruption>,
     },
+    /// An entry that was handed in finds nobody at its path, and is told that.
+    Unfound {
+        /// The path.
+        target: &'a [Text],
+        /// What is asked for there.
+        entry: &'a Entry,
+        /// What is told.
+        told: &'a Result<Value, Interruption>,
+    },
     /// The caller's call, in which an entry that was handed in ended by this exit, ends by it too.
     ExitCameBack {
-        /// The interpreter that called.
+        /// The interpreter that called. It may be gone.
         caller: Place,
         /// How many levels up the call went; none where it went to the host.
         up: Option<usize>,
@@ -120,8 +132,8 @@ pub trait Outside {
     // from one state to the next, by what it is told, the tree being what it then is
     ghost goes: { core.Tree Own → Self → Wait → Event Own → Self → Type 0 };
 
-    // what may have become of a state, where an evaluation is given up, by all that it is told, and
-    // by a question for which it wants memory
+    // what may have become of a state, where an evaluation is given up, by all that it is told, by
+    // a question for which it wants memory, and by an entry that it hands in
     ghost loses: { Self → Self → Type 0 };
 
     // how many entries it may still hand in
@@ -167,7 +179,8 @@ pub trait Outside {
         ensures lost { loses self.old self.new }
         ensures left { entries_left self.new ≤ entries_left self.old };
 
-    /// What comes next to the caller's call, which passed the top of the tree.
+    /// What comes next to the caller's call, which passed the top of the tree. A caller that is gone
+    /// is told of no completion, and of no word of the host (`told_to`).
     ///
     /// # Errors
     /// How the call ended otherwise than by an ordinary result; want of memory.
@@ -180,10 +193,11 @@ pub trait Outside {
         entry: &Entry,
     ) -> Result<Turn, Interruption>
         requires asked { IsAsked up (whole_entry entry.now) }
-        ensures comes { (p : Path) → Names tree.now caller p → rise_to up p ≡ None →
-            ComesNext goes hands_in (tree_of tree.now) self.old p up (whole_entry entry.now)
+        ensures comes { (p : Path) (d : ℕ) → Holds tree.now caller p d → rise_to up p ≡ None →
+            ComesNext goes hands_in (tree_of tree.now) self.old p d up (whole_entry entry.now)
             self.new result }
         ensures lost { WhereMemory result (loses self.old self.new) }
+        ensures handed { OnEntry result (loses self.old self.new) }
         ensures fewer { OnEntry result (entries_left self.new < entries_left self.old) }
         ensures left { entries_left self.new ≤ entries_left self.old };
 }
@@ -228,7 +242,7 @@ impl<H: Host> Outside for H {
     ) -> Result<Turn, Interruption> {
         match (up, entry) {
             (None, Entry::AskHost(request)) => Ok(Turn::Heard(ask(self, alloc, request)?)),
-            _ => Err(no_interpreter(alloc, "")),
+            _ => Ok(Turn::Nobody),
         }
     }
 }

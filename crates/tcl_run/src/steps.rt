@@ -7,6 +7,7 @@ ghost use Rattle.tcl_core.specs.Trees as core;
 ghost use Rattle.tcl_frames.specs.Chain.{read, after_set};
 ghost use Rattle.tcl_language.specs.Faults.{frame_message};
 ghost use Rattle.tcl_language.specs.Instructions.{fits};
+ghost use Rattle.tcl_core.specs.Endings.Kind.{Full};
 ghost use Rattle.tcl_core.specs.Endings.Meter.{Count};
 ghost use Rattle.tcl_core.specs.Endings as endings;
 ghost use Rattle.tcl_run.specs.Runs.{Counts, IsLevel, RefusesStep, Rechained};
@@ -164,7 +165,7 @@ pub fn charge<O: Outside>(
 
 /// The stop of the interpreter so many levels up, whose limit of steps would be passed.
 fn past_limit(levels: usize) -> Interruption
-    ensures { Says result (λ e. e ≡ endings.Reply.Stop levels Count) }
+    ensures { Says result (λ e. e ≡ endings.Reply.Stop levels (Full Count)) }
 {
     Interruption::Stopped(Stop {
         levels_up: levels,

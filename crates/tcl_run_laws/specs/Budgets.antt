@@ -1,11 +1,11 @@
 -- What an evaluation counts, and which limits it keeps. It takes the tree from T to V, and τ is all
 -- that happens in it.
-use Rattle.std.specs.Prelude.{◌≡◌, ◌≢◌, ℕ, ◌≤◌, ◌+◌, List, [], ◌++◌, Option, Some}
+use Rattle.std.specs.Prelude.{◌≡◌, ◌≢◌, ◌⊎◌, ℕ, ◌≤◌, ◌+◌, List, [], ◌++◌, Option, Some}
 use Rattle.tcl_core.specs.Laws.{AsLimited, IsLowering, IsSafeAt, IsSafeBelow, IsSpared, Obeys}
-use Rattle.tcl_core.specs.Laws.{Unasked, depth_of}
+use Rattle.tcl_core.specs.Laws.{Unasked}
 use Rattle.tcl_core.specs.Lives.{count_at, limit_at}
 use Rattle.tcl_core.specs.Paths.{Place, strip}
-use Rattle.tcl_core.specs.Trees.{Event, Node, Tree}
+use Rattle.tcl_core.specs.Trees.{Event, Node, Tree, depth_of}
 use Rattle.tcl_core.specs.Views.{moves_of, steps_of, view}
 
 module _ {O : Type 0} where
@@ -74,10 +74,11 @@ module _ {O : Type 0} where
 
   -- ## Depths
 
-  -- Each is in use afterwards as deeply as before, where nobody was in use more deeply than one
-  -- above it; and so nobody is in use where nobody was.
+  -- Where nobody was in use more deeply than one above it, each is in use afterwards as deeply as
+  -- before, or, where it or one above it was dropped meanwhile, not at all. And so nobody is in use
+  -- where nobody was.
   pub record DepthsComeBack (T V : Tree O) : Type 0 where
-    pub same : IsNested T → (q : Place) → depth_of (V q) ≡ depth_of (T q)
+    pub same : IsNested T → (q : Place) → (depth_of (V q) ≡ depth_of (T q)) ⊎ (depth_of (V q) ≡ 0)
     pub rest : IsAtRest T → IsAtRest V
 
   -- ## All of it

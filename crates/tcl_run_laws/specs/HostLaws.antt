@@ -6,7 +6,6 @@ use Rattle.tcl_core.specs.Entries.Entry.{Eval}
 use Rattle.tcl_core.specs.Lives.{End, Whole, end_at, limited, unlimited}
 use Rattle.tcl_core.specs.Paths.{Path, Text}
 use Rattle.tcl_core.specs.Programs.{Table}
-use Rattle.tcl_core.specs.Runs.{entering}
 use Rattle.tcl_core.specs.Execution.{Crossings, Executes}
 use Rattle.tcl_core.specs.Trees.{Event, Node, Tree}
 use Rattle.tcl_run_laws.specs.Replies.{Belongs}
@@ -39,9 +38,9 @@ pub record WholeRun {I S : Type 0} (step : S → TheirRequest → TheirReply →
 abbrev pub RunsAreWhole : {S : Type 0} → Type 0 → (S → TheirRequest → TheirReply → S → Type 0) →
     Type 0
 RunsAreWhole {S} I step = (fine : I → Bool) (prog : Table Own I) (T V : Tree Own) (o z : S)
-    (p : Path) (s : Text) (n : ℕ) (r : Reply) → KeepTops fine prog → HasTop T →
-    Executes (Crossings (hosted step)) prog (limited n T) o p
-    (entering prog (limited n T p) (Eval s)) V z r → WholeRun step prog T p s n o V z r
+    (p : Path) (s : Text) (n : ℕ) (r : Reply) (there : Node Own) → KeepTops fine prog → HasTop T →
+    T p ≡ Some there → Executes (Crossings (hosted step)) prog (limited n T) o p
+    (prog.entry (Eval s)) V z r → WholeRun step prog T p s n o V z r
 
 -- The same of a script in an interpreter that stands, with the commands of the language.
 abbrev pub ScriptsAreWhole : {S : Type 0} → (S → TheirRequest → TheirReply → S → Type 0) → Type 0

@@ -7,7 +7,6 @@ use Rattle.tcl_core.specs.Entries.Entry.{Eval}
 use Rattle.tcl_core.specs.Lives.{End, Whole, limited}
 use Rattle.tcl_core.specs.Paths.{Path, Text}
 use Rattle.tcl_core.specs.Programs.{Table}
-use Rattle.tcl_core.specs.Runs.{entering}
 use Rattle.tcl_core.specs.Execution.{Crossings}
 use Rattle.tcl_core.specs.Trees.{Event, Node, Tree}
 use Rattle.tcl_run_laws.specs.Replies.{Belongs}
@@ -33,11 +32,12 @@ pub record IsBeginning {I S : Type 0} (step : S → TheirRequest → TheirReply 
 
 -- Where a script with a host, whose root may make n steps, is given up on its way, what the host
 -- was asked until then is what the whole evaluation of that script begins with. So it is for every
--- table of commands and every tree.
+-- table of commands and every tree in which somebody stands at the path.
 abbrev pub RunsBegin : {S : Type 0} → Type 0 → (S → TheirRequest → TheirReply → S → Type 0) → Type 0
-RunsBegin {S} I step = (prog : Table Own I) (T : Tree Own) (o z : S) (p : Path) (s : Text) (n : ℕ) →
-    Begun (Crossings (hosted step)) prog (limited n T) o p (entering prog (limited n T p) (Eval s))
-    z → IsBeginning step prog T p s n o z
+RunsBegin {S} I step = (prog : Table Own I) (T : Tree Own) (o z : S) (p : Path) (s : Text) (n : ℕ)
+    (there : Node Own) → T p ≡ Some there →
+    Begun (Crossings (hosted step)) prog (limited n T) o p (prog.entry (Eval s)) z →
+    IsBeginning step prog T p s n o z
 
 -- The same of a script in an interpreter that stands, with the commands of the language.
 abbrev pub ScriptsBegin : {S : Type 0} → (S → TheirRequest → TheirReply → S → Type 0) → Type 0

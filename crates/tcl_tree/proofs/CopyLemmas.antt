@@ -19,6 +19,9 @@ use Rattle.tcl_tree.specs.Walking.{entries_in, sum_of, weight}
 use Rattle.tcl_interpreter.specs.declared.node.Node.{Node}
 use Rattle.tcl_interpreter.specs.declared.node.State.{State}
 use Rattle.tcl_interpreter.proofs.Outcomes.{clash}
+use Rattle.tcl_tree.specs.Held.{held_in, depth_at, IsOrdered}
+use Rattle.tcl_tree.proofs.HeldLemmas.{held-at, held-eq, held-none, link-above, follow_stands, follow_there}
+use Rattle.tcl_tree.proofs.PartingLemmas.{ordered_grown, ordered_single}
 use Rattle.tcl_tree.proofs.HeapLemmas.{Grows, follow-nil, then_child, one_path, sound-grows, follow_grown, follow-shrinks}
 use Rattle.tcl_tree.proofs.StepLemmas.{child-at, link-none, level-at, safe-at, children-at, children-none, children-eq, follow_append, sound-single, guarded-single}
 use Rattle.tcl_tree.proofs.MakeLemmas.{grows_joined, guarded_joined}
@@ -130,7 +133,7 @@ drop_less f (e ∷ es) (suc i) (suc j) l = drop_less f es i j (omega arith)
 
 -- ## One child more
 
-module _ (h : Heap) (whole : ℕ) (sound : IsSound h whole) (guards : IsGuarded h) (s t : Slab Node) (top root : ℕ) (part : IsPart h (slab.get s) top root)
+module _ (h : Heap) (whole : ℕ) (sound : IsSound h whole) (guards : IsGuarded h) (order : IsOrdered h whole) (s t : Slab Node) (top root : ℕ) (part : IsPart h (slab.get s) top root)
     (k twin c d : ℕ) (at : IsPair h (slab.get s) top root k twin) (a : Adds h s t k twin c d) where
   like : IsLike h (slab.get s) k twin
   like = part.like at.0 k twin at.1 at.2
@@ -183,6 +186,29 @@ module _ (h : Heap) (whole : ℕ) (sound : IsSound h whole) (guards : IsGuarded 
       let w = ap (λ (n : Node). length (keys n.children)) old_is in
       omega (arith, x, y, z, f, w)
       )
+
+  ordered_step : IsOrdered (slab.get t) root
+  ordered_step = ordered_grown (slab.get s) (slab.get t) root twin a.name d a.made.state.depth grows part.ordered
+      (follow_stands (slab.get s) root part.sound part.ordered at.0 twin at.2)
+      (
+      let x = ap depth_at (held-at (slab.get s) twin like.that like.twin) in
+      let y = ap (λ (v : NodeView). v.depth) (like.state []) in
+      let z = ap depth_at (held-at h k like.this like.is) in
+      let u = ap depth_at (held-at h c a.source a.source_is) in
+      let v = ap (λ (v : NodeView). v.depth) (a.bare.state []) in
+      let w = order.depths c k a.name (link-above h c k a.name (sound.down k a.name c a.child)) in
+      omega (arith, x, y, z, u, v, w)
+      )
+      (follow_there (slab.get s) root part.sound part.ordered at.0 twin at.2)
+      (held-none (slab.get s) d a.joined.was)
+      (held-at (slab.get t) d a.made a.joined.here ∙ (λ i. Some (record { above = option_map (λ j. (j, a.bare.name i)) (a.bare.parent i); depth = a.made.state.depth; gone = a.bare.stands i })))
+      (λ j other. elim (cases_eq j twin) [
+        | inl e ↦
+            ap (held_in (slab.get t)) e ∙ held-at (slab.get t) twin a.joined.new a.joined.new_is
+            ∙ (λ i. Some (record { above = option_map (λ n. (n, a.joined.name i)) (a.joined.parent i); depth = a.joined.depth i; gone = a.joined.stands i }))
+            ∙ sym (held-at (slab.get s) twin a.joined.old a.joined.old_is) ∙ ap (held_in (slab.get s)) (sym e)
+        | inr p ↦ held-eq (slab.get s) (slab.get t) j (a.joined.others j p other)
+      ])
 
   pub kept_step : (q : Path) (j : ℕ) → follow (slab.get s) root q ≡ Some j → follow (slab.get t) root q ≡ Some j
   kept_step = follow_grown (slab.get s) (slab.get t) root twin a.name d grows part.sound
@@ -254,7 +280,7 @@ module _ (h : Heap) (whole : ℕ) (sound : IsSound h whole) (guards : IsGuarded 
       by (Other x y) = let l = part.like p j u e x in record { this = l.this; is = l.is; that = l.that; twin = y ∙ l.twin; level = l.level; state = l.state; names = l.names }
 
   pub part_step : IsPart h (slab.get t) top root
-  part_step = record { sound = sound_step; guarded = guarded_step; like = like_step }
+  part_step = record { sound = sound_step; guarded = guarded_step; ordered = ordered_step; like = like_step }
 
   -- what isn't whole is listed
   pub each_step : (xs : List (ℕ × ℕ)) → ((p : Path) (j u : ℕ) → follow h top p ≡ Some j → follow (slab.get s) root p ≡ Some u → IsWhole h (slab.get s) j u ⊎ IsListed (xs ++ (k, twin) ∷ []) j u)
@@ -372,6 +398,7 @@ module _ (h g : Heap) (top root : ℕ) (name : Text) (source made : Node) (is : 
   part_first = record {
     sound = sound-single g root made here bare.parent first_fits bare.leaf others;
     guarded = guarded-single g root made here bare.parent first_fits bare.leaf others;
+    ordered = ordered_single g root made here bare.parent first_fits bare.leaf others bare.stands;
     like = λ p j u e f. let w = leads p j u e f in subst (λ x. IsLike h g x u) (sym w.0) (subst (λ x. IsLike h g top x) (sym w.1) like_first);
   }
 
@@ -412,7 +439,7 @@ module _ (h g : Heap) (top root : ℕ) (part : IsPart h g top root) (each : (p :
           below_child g u n v.0 q there ∙ ih i v.0 (then_child h top p n j e ∙ down) (then_child g root p n u f ∙ there) ∙ sym (below_child h j n i q down)
 
   pub copied : IsCopy h g top root
-  copied = record { sound = part.sound; guarded = part.guarded; same = λ q. same_below q [] top root (follow-nil h top) (follow-nil g root) }
+  copied = record { sound = part.sound; guarded = part.guarded; ordered = part.ordered; same = λ q. same_below q [] top root (follow-nil h top) (follow-nil g root) }
 
 -- what is below a path is what is below the key that it leads to
 pub tree_along : (h : Heap) (root top : ℕ) (p q : Path) → follow h root p ≡ Some top → tree_in h root (p ++ q) ≡ tree_in h top q
@@ -444,19 +471,19 @@ walk_popped h g top root k t xs w all = record {
   each = each_popped h g top root k t xs all w.each;
 }
 
-module _ (h : Heap) (whole : ℕ) (sound : IsSound h whole) (guards : IsGuarded h) (s t : Slab Node) (top root k twin c d : ℕ) (xs : List (ℕ × ℕ))
+module _ (h : Heap) (whole : ℕ) (sound : IsSound h whole) (guards : IsGuarded h) (order : IsOrdered h whole) (s t : Slab Node) (top root k twin c d : ℕ) (xs : List (ℕ × ℕ))
     (w : IsWalk h (slab.get s) top root (xs ++ (k, twin) ∷ [])) (a : Adds h s t k twin c d) where
   pub walk_more : IsWalk h (slab.get t) top root ((xs ++ (k, twin) ∷ []) ++ (c, d) ∷ [])
   walk_more =
       let p = last_pair h (slab.get s) top root k twin xs w in
       record {
-        part = part_step h whole sound guards s t top root w.part k twin c d p a;
-        pairs = pairs_step h whole sound guards s t top root w.part k twin c d p a (xs ++ (k, twin) ∷ []) w.pairs;
-        each = each_step h whole sound guards s t top root w.part k twin c d p a xs w.each;
+        part = part_step h whole sound guards order s t top root w.part k twin c d p a;
+        pairs = pairs_step h whole sound guards order s t top root w.part k twin c d p a (xs ++ (k, twin) ∷ []) w.pairs;
+        each = each_step h whole sound guards order s t top root w.part k twin c d p a xs w.each;
       }
 
   pub walk_less : left_of h (slab.get t) ((xs ++ (k, twin) ∷ []) ++ (c, d) ∷ []) < left_of h (slab.get s) (xs ++ (k, twin) ∷ [])
-  walk_less = less_step h whole sound guards s t top root w.part k twin c d (last_pair h (slab.get s) top root k twin xs w) a xs
+  walk_less = less_step h whole sound guards order s t top root w.part k twin c d (last_pair h (slab.get s) top root k twin xs w) a xs
 
 pub walk_done : (h g : Heap) (top root : ℕ) (xs : List (ℕ × ℕ)) → length xs ≡ 0 → IsWalk h g top root xs → IsCopy h g top root
 walk_done h g top root [] none w = copied h g top root w.part (λ p j u e f. elim (w.each p j u e f) [

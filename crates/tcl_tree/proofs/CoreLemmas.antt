@@ -1,14 +1,13 @@
 -- What the table does, in the words of the core.
-use Rattle.std.proofs.Common.{◌≡◌, ◌⊎◌, ℕ, zero, suc, ◌-◌, ◌<◌, ◌≤◌, Bool, true, false, cond, [], ◌∷◌, ◌++◌, length, take, refl, sym, ◌∙◌, ap, inl, inr, arith, Option, Some, None, ◌&&◌}
-use Rattle.std.specs.Prelude.{◌≢◌, nat_eq, is_some, Result, Ok, Err, OnOk, OnErr, IfErr, IfSome, IfNone}
-use Rattle.std.proofs.lemmas.Bool.Decides.{nat_tests}
+use Rattle.std.proofs.Common.{◌≡◌, ◌⊎◌, ℕ, suc, ◌-◌, ◌<◌, ◌≤◌, Bool, true, false, cond, [], ◌∷◌, ◌++◌, length, take, refl, sym, ◌∙◌, ap, inl, inr, arith, Option, Some, None, ◌&&◌}
+use Rattle.std.specs.Prelude.{◌≢◌, is_some, Result, Ok, Err, OnOk, OnErr, IfErr, IfSome, IfNone}
 use Rattle.std.specs.Option.{option_map, option_map_or}
 use Rattle.std.specs.Str.{bytes_eq}
-use Rattle.tcl_core.specs.Paths.{same, strip, guarded, rise, rejoined}
+use Rattle.tcl_core.specs.Paths.{same, strip, guarded}
 use Rattle.tcl_core.specs.Trees.{on_node, on_line, on_some, at_end, where_some}
 use Rattle.tcl_core.specs.Programs.{blocked, nearer}
 use Rattle.tcl_core.specs.Programs as programs
-use Rattle.tcl_core.proofs.PathLaws.{same-refl, same-sound, strip-sound, strip_own, rise_past}
+use Rattle.tcl_core.proofs.PathLaws.{strip-sound, strip_own}
 use Rattle.tcl_interpreter.specs.Paths.{Text, Path, is_above, ancestor, with_node}
 use Rattle.tcl_tree.specs.Nodes.{NodeView, NoneFull, IsNearestFull, charged, full_up}
 use Rattle.tcl_tree.specs.declared.tree.Tree.{Tree as Table}
@@ -16,7 +15,7 @@ use Rattle.slab.specs.Slab.{get}
 use Rattle.tcl_tree.specs.TreeOf.{tree_of, key_of}
 use Rattle.tcl_tree.proofs.HeapLemmas.{tree-at, tree-none, follow-nil}
 use Rattle.tcl_tree.proofs.StepLemmas.{some_there, leads_somewhere}
-use Rattle.tcl_interpreter.proofs.PathLemmas.{path_cases, text_cases, same_is}
+use Rattle.tcl_interpreter.proofs.PathLemmas.{path_cases, same_is}
 
 pub above_is : (q p : Path) → is_above q p ≡ is_some (strip q p)
 unfolding is_above

@@ -1,5 +1,5 @@
 -- Lemmas on a table of nodes.
-use Rattle.std.proofs.Common.{◌≡◌, ℕ, ◌+◌, ◌<◌, ◌≤◌, ◌^◌, true, false, length, cond, [], ◌∷◌, ◌++◌, refl, sym, ◌∙◌, ap, inl, inr, arith, Option, Some, None}
+use Rattle.std.proofs.Common.{◌≡◌, ℕ, ◌+◌, ◌<◌, ◌≤◌, ◌^◌, Bool, true, false, List, length, cond, [], ◌∷◌, ◌++◌, refl, sym, ◌∙◌, ap, inl, inr, arith, Option, Some, None}
 use Rattle.std.specs.Prelude.{◌≢◌, ◌⊎◌}
 use Rattle.std.specs.Option.{option_and_then, option_map, option_map_or}
 use Rattle.std.specs.Str.{bytes_eq}
@@ -9,7 +9,7 @@ use Rattle.std.proofs.lemmas.Option.{some_pair_parts, same_Some}
 use Rattle.indexmap.specs.IndexMap.{get, keys}
 use Rattle.std.specs.Map.{lookup, keys_of}
 use Rattle.tcl_interpreter.specs.Paths.{Text, Path, path_eq, with_node}
-use Rattle.tcl_tree.specs.Nodes.{Heap, view_of, link_of, shape_of, view_shape, child_in, follow, tree_in, link_in, level_in, safe_in, children_in, IsSound, IsGuarded}
+use Rattle.tcl_tree.specs.Nodes.{Heap, Shape, view_of, link_of, shape_of, place_of, view_shape, child_in, follow, tree_in, link_in, level_in, safe_in, children_in, IsSound, IsGuarded}
 use Rattle.tcl_interpreter.specs.declared.node.Node.{Node}
 use Rattle.tcl_interpreter.proofs.Outcomes.{clash}
 use Rattle.tcl_interpreter.proofs.PathLemmas.{snoc_ind, ends_cases, snoc_not_empty, snoc_same, snoc_longer, path_cases, text_cases}
@@ -154,12 +154,6 @@ module _ (h h₁ : Heap) (root pk : ℕ) (name : Text) (nk : ℕ) (g : Grows h h
   sound-grows s = record {
     top = let w = link_at root in let t = s.top in grind arith;
     down = λ k n c e. let w = child_at k n in let v = link_at c in let d = s.down k n c in let l = g.link_new in grind arith;
-    up = λ c k n e. elim (link_at c) [
-      | inl v ↦
-          let same = same_link pk k name n (sym v.1 ∙ e) in
-          (λ i. child_in h₁ (sym same.0 i) (sym same.1 i)) ∙ named ∙ ap Some (sym v.0)
-      | inr v ↦ let w = child_at k n in let u = s.up c k n in grind arith
-    ];
     alone = λ c e. let v = link_at c in let a = s.alone c in grind arith;
     levels = λ k n c e. let w = child_at k n in let v = link_at c in let x = link_at k in let d = s.down k n c in let l = s.levels k n c in grind arith;
     fits = λ k. let v = link_at k in let f = s.fits k in let t = g.fits in grind arith;
@@ -178,7 +172,6 @@ module _ (h h₁ : Heap) (root pk : ℕ) (name : Text) (nk : ℕ) (g : Grows h h
           cc
       | inr v ↦ let w = child_at k n in let d = s.down k n c in grind arith
     ];
-    up = λ c k n e. let w = child_at k n in let v = link_at c in let u = s.up c k n in grind arith;
     alone = λ c e. let v = link_at c in let a = s.alone c in grind arith;
     levels = λ k n c e. let w = child_at k n in let v = link_at c in let x = link_at k in let d = s.down k n c in let l = s.levels k n c in grind arith;
     fits = λ k. elim (cases_eq k nk) [
@@ -382,11 +375,12 @@ pub record SamePlace (old new : Node) : Type 0 where
   pub level : new.level ≡ old.level
   pub children : new.children.entries ≡ old.children.entries
   pub safe : new.state.safe ≡ old.state.safe
+  pub gone : new.gone ≡ old.gone
 
 module _ (h h₁ : Heap) (k₀ : ℕ) (old new : Node) (is_old : h k₀ ≡ Some old) (is_new : h₁ k₀ ≡ Some new) (same : SamePlace old new)
     (rest : (k : ℕ) → k ≢ k₀ → h₁ k ≡ h k) where
   -- what depends on the place and the children alone is the same at each key
-  at_each : {X : Type 0} (f : Option Node → X) → f (Some new) ≡ f (Some old) → (k : ℕ) → f (h₁ k) ≡ f (h k)
+  pub at_each : {X : Type 0} (f : Option Node → X) → f (Some new) ≡ f (Some old) → (k : ℕ) → f (h₁ k) ≡ f (h k)
   at_each f e k = elim (cases_eq k k₀) [
     | inl is ↦ ap f (ap h₁ is ∙ is_new) ∙ e ∙ sym (ap f (ap h is ∙ is_old))
     | inr other ↦ ap f (rest k other)
@@ -422,7 +416,6 @@ module _ (h h₁ : Heap) (k₀ : ℕ) (old new : Node) (is_old : h k₀ ≡ Some
   sound-same root s = record {
     top = link-same root ∙ s.top;
     down = λ k n c e. link-same c ∙ s.down k n c (sym (child-same k n) ∙ e);
-    up = λ c k n e. child-same k n ∙ s.up c k n (sym (link-same c) ∙ e);
     alone = λ c e. s.alone c (sym (link-same c) ∙ e);
     levels = λ k n c e. level-same c ∙ s.levels k n c (sym (child-same k n) ∙ e) ∙ ap (λ l. l + 1) (sym (level-same k));
     fits = λ k. let f = s.fits k in let e = level-same k in omega arith;
@@ -464,29 +457,98 @@ module _ (h h₁ : Heap) (k₀ : ℕ) (old new : Node) (is_old : h k₀ ≡ Some
           let heaps = ap h₁ {x = k} {y = k₀} in
           grind arith
 
+-- what looks at places alone is the same in two tables of the same places
+module _ (h h₁ : Heap) (same : (k : ℕ) → option_map place_of (h₁ k) ≡ option_map place_of (h k)) where
+  place_child : (x : Heap) (k : ℕ) (n : Text) → child_in x k n ≡ option_and_then (λ place. lookup (bytes_eq n) place.3) (option_map place_of (x k))
+  unfolding child_in
+  place_child x k n = by (x k)
+    where
+      by : (o : Option Node) → option_and_then (λ node. get bytes_eq node.children n) o ≡ option_and_then (λ place. lookup (bytes_eq n) place.3) (option_map place_of o)
+      by None = refl
+      by (Some node) = refl
+
+  place_link : (x : Heap) (k : ℕ) → link_in x k ≡ option_map (λ place. option_map (λ j. (j, place.1)) place.0) (option_map place_of (x k))
+  unfolding link_in
+  place_link x k = by (x k)
+    where
+      by : (o : Option Node) → option_map link_of o ≡ option_map (λ place. option_map (λ j. (j, place.1)) place.0) (option_map place_of o)
+      by None = refl
+      by (Some node) = refl
+
+  place_level : (x : Heap) (k : ℕ) → level_in x k ≡ option_map_or (λ place. place.2) (option_map place_of (x k)) 0
+  unfolding level_in
+  place_level x k = by (x k)
+    where
+      by : (o : Option Node) → option_map_or (λ node. node.level) o 0 ≡ option_map_or (λ place. place.2) (option_map place_of o) 0
+      by None = refl
+      by (Some node) = refl
+
+  place_safe : (x : Heap) (k : ℕ) → safe_in x k ≡ option_map_or (λ place. place.4) (option_map place_of (x k)) false
+  unfolding safe_in
+  place_safe x k = by (x k)
+    where
+      by : (o : Option Node) → option_map_or (λ node. node.state.safe) o false ≡ option_map_or (λ place. place.4) (option_map place_of o) false
+      by None = refl
+      by (Some node) = refl
+
+  place_children : (x : Heap) (k : ℕ) → children_in x k ≡ option_map_or (λ place. length (keys_of place.3)) (option_map place_of (x k)) 0
+  unfolding children_in
+  place_children x k = by (x k)
+    where
+      by : (o : Option Node) → option_map_or (λ node. length (keys node.children)) o 0 ≡ option_map_or (λ place. length (keys_of place.3)) (option_map place_of o) 0
+      by None = refl
+      by (Some node) = refl
+
+  pub child_placed : (k : ℕ) (n : Text) → child_in h₁ k n ≡ child_in h k n
+  child_placed k n = place_child h₁ k n ∙ ap (option_and_then (λ place. lookup (bytes_eq n) place.3)) (same k) ∙ sym (place_child h k n)
+
+  pub link_placed : (k : ℕ) → link_in h₁ k ≡ link_in h k
+  link_placed k = place_link h₁ k ∙ ap (option_map (λ place. option_map (λ j. (j, place.1)) place.0)) (same k) ∙ sym (place_link h k)
+
+  pub level_placed : (k : ℕ) → level_in h₁ k ≡ level_in h k
+  level_placed k = place_level h₁ k ∙ ap (λ o. option_map_or (λ place. place.2) o 0) (same k) ∙ sym (place_level h k)
+
+  safe_placed : (k : ℕ) → safe_in h₁ k ≡ safe_in h k
+  safe_placed k = place_safe h₁ k ∙ ap (λ o. option_map_or (λ place. place.4) o false) (same k) ∙ sym (place_safe h k)
+
+  children_placed : (k : ℕ) → children_in h₁ k ≡ children_in h k
+  children_placed k = place_children h₁ k ∙ ap (λ o. option_map_or (λ place. length (keys_of place.3)) o 0) (same k) ∙ sym (place_children h k)
+
+  pub guarded_placed : IsGuarded h → IsGuarded h₁
+  guarded_placed s = record {
+    safe = λ k n c e f. safe_placed c ∙ s.safe k n c (sym (child_placed k n) ∙ e) (sym (safe_placed k) ∙ f);
+    few = λ k. let f = s.few k in let e = children_placed k in omega arith;
+  }
+
+  pub sound_placed : (root : ℕ) → IsSound h root → IsSound h₁ root
+  sound_placed root s = record {
+    top = link_placed root ∙ s.top;
+    down = λ k n c e. link_placed c ∙ s.down k n c (sym (child_placed k n) ∙ e);
+    alone = λ c e. s.alone c (sym (link_placed c) ∙ e);
+    levels = λ k n c e. level_placed c ∙ s.levels k n c (sym (child_placed k n) ∙ e) ∙ ap (λ l. l + 1) (sym (level_placed k));
+    fits = λ k. let f = s.fits k in let e = level_placed k in omega arith;
+  }
+
+-- names lead along children alone
+pub follow_along : (h h₁ : Heap) → ((k : ℕ) (n : Text) → child_in h₁ k n ≡ child_in h k n) → (q : Path) (k : ℕ) → follow h₁ k q ≡ follow h k q
+unfolding follow
+follow_along h h₁ same [] k = refl
+follow_along h h₁ same (n ∷ q) k = by (child_in h k n) (same k n) (follow_along h h₁ same q)
+  where
+    by : (o : Option ℕ) → child_in h₁ k n ≡ o → ((c : ℕ) → follow h₁ c q ≡ follow h c q)
+        → option_and_then (λ c. follow h₁ c q) (child_in h₁ k n) ≡ option_and_then (λ c. follow h c q) o
+    by None e ih = ap (option_and_then (λ c. follow h₁ c q)) e
+    by (Some c) e ih = ap (option_and_then (λ c. follow h₁ c q)) e ∙ ih c
+
+abbrev place_shape : Shape → Option ℕ × Text × ℕ × List (Text × ℕ) × Bool × Bool
+place_shape shape = (shape.0, shape.1, shape.2, shape.3, shape.4.safe, shape.5)
+
 -- what looks at shapes alone is the same in two tables of the same shapes
 module _ (h h₁ : Heap) (same : (k : ℕ) → option_map shape_of (h₁ k) ≡ option_map shape_of (h k)) where
-  shape_child : (x : Heap) (k : ℕ) (n : Text) → child_in x k n ≡ option_and_then (λ shape. lookup (bytes_eq n) shape.3) (option_map shape_of (x k))
-  unfolding child_in
-  shape_child x k n = by (x k)
+  shape_place : (x : Heap) (k : ℕ) → option_map place_of (x k) ≡ option_map place_shape (option_map shape_of (x k))
+  shape_place x k = by (x k)
     where
-      by : (o : Option Node) → option_and_then (λ node. get bytes_eq node.children n) o ≡ option_and_then (λ shape. lookup (bytes_eq n) shape.3) (option_map shape_of o)
-      by None = refl
-      by (Some node) = refl
-
-  shape_link : (x : Heap) (k : ℕ) → link_in x k ≡ option_map (λ shape. option_map (λ j. (j, shape.1)) shape.0) (option_map shape_of (x k))
-  unfolding link_in
-  shape_link x k = by (x k)
-    where
-      by : (o : Option Node) → option_map link_of o ≡ option_map (λ shape. option_map (λ j. (j, shape.1)) shape.0) (option_map shape_of o)
-      by None = refl
-      by (Some node) = refl
-
-  shape_level : (x : Heap) (k : ℕ) → level_in x k ≡ option_map_or (λ shape. shape.2) (option_map shape_of (x k)) 0
-  unfolding level_in
-  shape_level x k = by (x k)
-    where
-      by : (o : Option Node) → option_map_or (λ node. node.level) o 0 ≡ option_map_or (λ shape. shape.2) (option_map shape_of o) 0
+      by : (o : Option Node) → option_map place_of o ≡ option_map place_shape (option_map shape_of o)
       by None = refl
       by (Some node) = refl
 
@@ -497,62 +559,17 @@ module _ (h h₁ : Heap) (same : (k : ℕ) → option_map shape_of (h₁ k) ≡ 
       by None = refl
       by (Some node) = refl
 
-  shape_safe : (x : Heap) (k : ℕ) → safe_in x k ≡ option_map_or (λ shape. shape.4.safe) (option_map shape_of (x k)) false
-  unfolding safe_in
-  shape_safe x k = by (x k)
-    where
-      by : (o : Option Node) → option_map_or (λ node. node.state.safe) o false ≡ option_map_or (λ shape. shape.4.safe) (option_map shape_of o) false
-      by None = refl
-      by (Some node) = refl
-
-  shape_children : (x : Heap) (k : ℕ) → children_in x k ≡ option_map_or (λ shape. length (keys_of shape.3)) (option_map shape_of (x k)) 0
-  unfolding children_in
-  shape_children x k = by (x k)
-    where
-      by : (o : Option Node) → option_map_or (λ node. length (keys node.children)) o 0 ≡ option_map_or (λ shape. length (keys_of shape.3)) (option_map shape_of o) 0
-      by None = refl
-      by (Some node) = refl
-
-  child_kept : (k : ℕ) (n : Text) → child_in h₁ k n ≡ child_in h k n
-  child_kept k n = shape_child h₁ k n ∙ ap (option_and_then (λ shape. lookup (bytes_eq n) shape.3)) (same k) ∙ sym (shape_child h k n)
-
-  link_kept : (k : ℕ) → link_in h₁ k ≡ link_in h k
-  link_kept k = shape_link h₁ k ∙ ap (option_map (λ shape. option_map (λ j. (j, shape.1)) shape.0)) (same k) ∙ sym (shape_link h k)
-
-  level_kept : (k : ℕ) → level_in h₁ k ≡ level_in h k
-  level_kept k = shape_level h₁ k ∙ ap (λ o. option_map_or (λ shape. shape.2) o 0) (same k) ∙ sym (shape_level h k)
-
-  safe_kept : (k : ℕ) → safe_in h₁ k ≡ safe_in h k
-  safe_kept k = shape_safe h₁ k ∙ ap (λ o. option_map_or (λ shape. shape.4.safe) o false) (same k) ∙ sym (shape_safe h k)
-
-  children_kept : (k : ℕ) → children_in h₁ k ≡ children_in h k
-  children_kept k = shape_children h₁ k ∙ ap (λ o. option_map_or (λ shape. length (keys_of shape.3)) o 0) (same k) ∙ sym (shape_children h k)
+  pub places_kept : (k : ℕ) → option_map place_of (h₁ k) ≡ option_map place_of (h k)
+  places_kept k = shape_place h₁ k ∙ ap (option_map place_shape) (same k) ∙ sym (shape_place h k)
 
   pub guarded_kept : IsGuarded h → IsGuarded h₁
-  guarded_kept s = record {
-    safe = λ k n c e f. safe_kept c ∙ s.safe k n c (sym (child_kept k n) ∙ e) (sym (safe_kept k) ∙ f);
-    few = λ k. let f = s.few k in let e = children_kept k in omega arith;
-  }
+  guarded_kept = guarded_placed h h₁ places_kept
 
   pub sound_kept : (root : ℕ) → IsSound h root → IsSound h₁ root
-  sound_kept root s = record {
-    top = link_kept root ∙ s.top;
-    down = λ k n c e. link_kept c ∙ s.down k n c (sym (child_kept k n) ∙ e);
-    up = λ c k n e. child_kept k n ∙ s.up c k n (sym (link_kept c) ∙ e);
-    alone = λ c e. s.alone c (sym (link_kept c) ∙ e);
-    levels = λ k n c e. level_kept c ∙ s.levels k n c (sym (child_kept k n) ∙ e) ∙ ap (λ l. l + 1) (sym (level_kept k));
-    fits = λ k. let f = s.fits k in let e = level_kept k in omega arith;
-  }
+  sound_kept = sound_placed h h₁ places_kept
 
   pub follow_kept : (q : Path) (k : ℕ) → follow h₁ k q ≡ follow h k q
-  unfolding follow
-  follow_kept [] k = refl
-  follow_kept (n ∷ q) k = by (child_in h k n) (child_kept k n) (follow_kept q)
-    where
-      by : (o : Option ℕ) → child_in h₁ k n ≡ o → ((c : ℕ) → follow h₁ c q ≡ follow h c q)
-          → option_and_then (λ c. follow h₁ c q) (child_in h₁ k n) ≡ option_and_then (λ c. follow h c q) o
-      by None e ih = ap (option_and_then (λ c. follow h₁ c q)) e
-      by (Some c) e ih = ap (option_and_then (λ c. follow h₁ c q)) e ∙ ih c
+  follow_kept = follow_along h h₁ (child_placed h h₁ places_kept)
 
   pub tree_kept : (root : ℕ) (q : Path) → tree_in h₁ root q ≡ tree_in h root q
   unfolding tree_in

@@ -1,18 +1,15 @@
 -- Lemmas on interpreters that are made and deleted.
-use Rattle.std.proofs.Common.{◌≡◌, ℕ, ◌+◌, ◌-◌, ◌<◌, ◌≤◌, ◌^◌, Bool, true, false, cond, List, [], ◌∷◌, ◌++◌, length, refl, sym, ◌∙◌, ap, inl, inr, arith, suc, subst, set, get_or, count_by, length-append, append-nil, append_assoc, Option, Some, None}
+use Rattle.std.proofs.Common.{◌≡◌, ℕ, ◌+◌, ◌-◌, ◌<◌, ◌≤◌, ◌^◌, Bool, true, false, cond, List, [], ◌∷◌, ◌++◌, length, refl, sym, ◌∙◌, ap, inl, inr, arith, suc, subst, length-append, append-nil, append_assoc, Option, Some, None}
 use Rattle.std.specs.Prelude.{◌≢◌, is_some, IfSome}
 use Rattle.std.specs.Option.{option_and_then, option_map}
 use Rattle.std.specs.Str.{bytes_eq}
 use Rattle.std.proofs.lemmas.Bool.{cases_eq}
 use Rattle.std.proofs.lemmas.Slice.Eq.{bytes_eq-Decides}
-use Rattle.std.proofs.lemmas.List.{map-append, length-map}
+use Rattle.std.proofs.lemmas.List.{length-map}
 use Rattle.std.proofs.lemmas.Option.{same_Some}
-use Rattle.std.proofs.lemmas.List.Sums.{sum_by-set}
-use Rattle.slab.proofs.SlabLemmas.{ContainsKey-within}
 use Rattle.std.specs.Map.{lookup, keys_of}
 use Rattle.indexmap.specs.IndexSet.{remove_key}
-use Rattle.indexmap.specs.IndexMap.{IndexMap, get, keys, insert_entry}
-use Rattle.indexmap.proofs.CallerLemmas.{insert_entry-new}
+use Rattle.indexmap.specs.IndexMap.{get, keys}
 use Rattle.slab.specs.Slab as slab
 use Rattle.slab.specs.Slab.{Slab}
 use Rattle.tcl_interpreter.specs.Paths.{Text, Path, is_above, with_node}
@@ -20,6 +17,8 @@ use Rattle.tcl_tree.specs.Nodes.{Heap, NodeView, Shape, view_of, shape_of, with_
 use Rattle.tcl_interpreter.specs.declared.node.Node.{Node}
 use Rattle.tcl_interpreter.proofs.PathLemmas.{path_cases, text_cases, above_cases, above_self, above_append, not_above_front}
 use Rattle.tcl_tree.proofs.HeapLemmas.{same_link, last_step, then_child, one_path, tree-none, Grows, guarded-grows, guarded-shrinks, tree-grows, tree-shrinks, sound-grows, sound-shrinks, follow-shrinks, follow_grown, sound_kept, guarded_kept, follow_kept, tree_kept}
+use Rattle.tcl_tree.specs.Held.{held_in, above_at, IsOrdered}
+use Rattle.tcl_tree.proofs.HeldLemmas.{held-some, link-above}
 use Rattle.tcl_tree.proofs.StepLemmas.{child-at, child-eq, child-none, link-at, link-none, link-eq, level-at, level-none, level-eq, safe-at, safe-eq, children-at, children-none, children-eq, tree_some, follow_append}
 
 shorter_removed : (test : Text → Bool) (xs : List Text) → length (remove_key test xs) ≤ length xs
@@ -95,7 +94,9 @@ joined_of s t pk label node a = record {
   parent = a.parent;
   name = a.name;
   level = a.level;
+  stands = a.stands;
   safe = ap (λ (v : NodeView). v.safe) a.view;
+  depth = ap (λ (v : NodeView). v.depth) a.view;
   names = ap (λ (v : NodeView). v.own.children) a.view;
   gets = a.gets;
   others = a.others;
@@ -153,6 +154,9 @@ module _ (s r t : Slab Node) (root pk : ℕ) (name label : Text) (node up : Node
   absent-old : get bytes_eq a.old.children label ≡ None
   absent-old = (λ i. lookup (bytes_eq (label_is i)) (shape i).3) ∙ absent
 
+  pub grows_created : Grows (slab.get r) (slab.get t) pk label a.key
+  grows_created = grows_attached r t pk label node a parent (named ∙ sym label_is) leaf level-old absent-old fits
+
   module _ (sound : IsSound (slab.get s) root) where
     sound-room : IsSound (slab.get r) root
     sound-room = sound_kept (slab.get s) (slab.get r) same root sound
@@ -182,23 +186,21 @@ module _ (s r t : Slab Node) (root pk : ℕ) (name label : Text) (node up : Node
         trees : tree_in (slab.get r) root ≡ tree_in (slab.get s) root
         trees = λ i q. tree_kept (slab.get s) (slab.get r) same root q i
 
--- what `detach` of a leaf does to the tree
+-- what it does to the tree that a leaf is taken out
 module _ (s t : Slab Node) (root : ℕ) (sound : IsSound (slab.get s) root) (key : ℕ) (node : Node) (pk : ℕ) (d : Detached s t key node pk)
-    (is : slab.get s key ≡ Some node) (parent : node.parent ≡ Some pk) (leaf : node.children.entries ≡ []) where
+    (is : slab.get s key ≡ Some node) (parent : node.parent ≡ Some pk) (leaf : node.children.entries ≡ [])
+    (child : child_in (slab.get s) pk node.name ≡ Some key) where
   link : link_in (slab.get s) key ≡ Some (Some (pk, node.name))
   link = link-at (slab.get s) key node is ∙ ap (λ o. Some (option_map (λ j. (j, node.name)) o)) parent
 
-  child : child_in (slab.get s) pk node.name ≡ Some key
-  child = sound.up key pk node.name link
-
-  pub detached_apart : pk ≢ key
-  detached_apart e =
+  pub out_apart : pk ≢ key
+  out_apart e =
       let l = sound.levels pk node.name key child in
       let m = ap (level_in (slab.get s)) e in
       omega arith
 
-  pub grows_detached : Grows (slab.get t) (slab.get s) pk node.name key
-  grows_detached = record {
+  pub grows_out : Grows (slab.get t) (slab.get s) pk node.name key
+  grows_out = record {
     child_new = λ n. child-at (slab.get s) key n node is ∙ ap (lookup (bytes_eq n)) leaf;
     child_was = λ n. child-none (slab.get t) key n d.gone;
     child_parent = λ n.
@@ -231,7 +233,7 @@ module _ (s t : Slab Node) (root : ℕ) (sound : IsSound (slab.get s) root) (key
         let f = sound.fits key in
         let m = level-at (slab.get s) pk d.old d.old_is ∙ sym (level-at (slab.get t) pk d.new d.new_is ∙ d.level) in
         omega arith;
-    apart = detached_apart;
+    apart = out_apart;
   }
 
   others_kept : (k : ℕ) → k ≢ key → safe_in (slab.get s) k ≡ safe_in (slab.get t) k
@@ -253,14 +255,14 @@ module _ (s t : Slab Node) (root : ℕ) (sound : IsSound (slab.get s) root) (key
     ]
   ]
 
-  pub guarded_detached : IsGuarded (slab.get s) → IsGuarded (slab.get t)
-  guarded_detached guarded = guarded-shrinks (slab.get t) (slab.get s) root pk node.name key grows_detached sound guarded others_kept fewer
+  pub guarded_out : IsGuarded (slab.get s) → IsGuarded (slab.get t)
+  guarded_out guarded = guarded-shrinks (slab.get t) (slab.get s) root pk node.name key grows_out sound guarded others_kept fewer
 
-  pub sound_detached : IsSound (slab.get t) root
-  sound_detached = sound-shrinks (slab.get t) (slab.get s) root pk node.name key grows_detached sound
+  pub sound_out : IsSound (slab.get t) root
+  sound_out = sound-shrinks (slab.get t) (slab.get s) root pk node.name key grows_out sound
 
-  pub keys_detached : (q : Path) (k : ℕ) → follow (slab.get s) root q ≡ Some k → k ≢ key → follow (slab.get t) root q ≡ Some k
-  keys_detached = follow-shrinks (slab.get t) (slab.get s) root pk node.name key grows_detached
+  pub keys_out : (q : Path) (k : ℕ) → follow (slab.get s) root q ≡ Some k → k ≢ key → follow (slab.get t) root q ≡ Some k
+  keys_out = follow-shrinks (slab.get t) (slab.get s) root pk node.name key grows_out
 
   -- the path of the node leads through its parent
   module _ (p : Path) (n : Text) (leads : follow (slab.get s) root (p ++ n ∷ []) ≡ Some key) where
@@ -270,18 +272,21 @@ module _ (s t : Slab Node) (root : ℕ) (sound : IsSound (slab.get s) root) (key
         let same = same_link l.parent pk n node.name (sym (sound.down l.parent n key l.child) ∙ link) in
         (l.front ∙ ap Some same.0, same.1)
 
-    pub parent_detached : follow (slab.get t) root p ≡ Some pk
-    parent_detached = keys_detached p pk at_parent.0 detached_apart
+    pub parent_out : follow (slab.get t) root p ≡ Some pk
+    parent_out = keys_out p pk at_parent.0 out_apart
 
-    pub tree_detached : (q : Path) → tree_in (slab.get t) root q ≡ pruned (tree_in (slab.get s) root) p n q
+    pub tree_out : (q : Path) → tree_in (slab.get t) root q ≡ pruned (tree_in (slab.get s) root) p n q
     unfolding pruned
-    tree_detached q =
-        tree-shrinks (slab.get t) (slab.get s) root pk node.name key grows_detached sound_detached p parent_detached d.new d.new_is d.others q
+    tree_out q =
+        tree-shrinks (slab.get t) (slab.get s) root pk node.name key grows_out sound_out p parent_out d.new d.new_is d.others q
         ∙ (λ i. with_node (with_node (tree_in (slab.get s) root) p (sym there i)) (p ++ sym at_parent.1 i ∷ []) None q)
       where
         there : option_map (without_child n) (tree_in (slab.get s) root p) ≡ Some (view_of d.new)
         there = ap (option_map (without_child n)) (tree_some (slab.get s) root p pk d.old at_parent.0 d.old_is)
             ∙ ap Some (ap (λ m. without_child m (view_of d.old)) at_parent.1 ∙ sym d.view)
+
+pub above_of : (h : Heap) (k j : ℕ) (node : Node) → h k ≡ Some node → node.parent ≡ Some j → above_at (held_in h k) ≡ Some (j, node.name)
+above_of h k j node is parent = link-above h k j node.name (link-at h k node is ∙ ap (λ o. Some (option_map (λ j. (j, node.name)) o)) parent)
 
 -- a node that a path with a name leads to is no root
 pub no_parent_is_root : (h : Heap) (root : ℕ) → IsSound h root → (p : Path) (n : Text) (k : ℕ) (node : Node) → follow h root (p ++ n ∷ []) ≡ Some k → h k ≡ Some node → node.parent ≡ None → ⊥
@@ -291,20 +296,13 @@ no_parent_is_root h root sound p n k node leads is none =
     let y : ◌≡◌ {A = Option (Option (ℕ × Text))} (Some (Some (l.parent, n))) (Some None) = sym (sound.down l.parent n k l.child) ∙ link in
     cc
 
-linked_parent : (h : Heap) (root : ℕ) → IsSound h root → (k j : ℕ) (node : Node) → h k ≡ Some node → node.parent ≡ Some j → child_in h j node.name ≡ Some k
-linked_parent h root sound k j node is parent = sound.up k j node.name (link-at h k node is ∙ ap (λ o. Some (option_map (λ j. (j, node.name)) o)) parent)
-
 -- a parent is there
-pub parent_there : (h : Heap) (root : ℕ) → IsSound h root → (k j : ℕ) (node : Node) → h k ≡ Some node → node.parent ≡ Some j → is_some (h j) ≡ true
-parent_there h root sound k j node is parent = by (h j) refl
-  where
-    by : (o : Option Node) → h j ≡ o → is_some o ≡ true
-    by None e = let x : ◌≡◌ {A = Option ℕ} None (Some k) = sym (child-none h j node.name e) ∙ linked_parent h root sound k j node is parent in cc
-    by (Some x) e = refl
+pub parent_there : (h : Heap) (root : ℕ) → IsOrdered h root → (k j : ℕ) (node : Node) → h k ≡ Some node → node.parent ≡ Some j → is_some (h j) ≡ true
+parent_there h root o k j node is parent = sym (held-some h j) ∙ o.there k j node.name (above_of h k j node is parent)
 
-pub parent_apart : (h : Heap) (root : ℕ) → IsSound h root → (k j : ℕ) (node : Node) → h k ≡ Some node → node.parent ≡ Some j → j ≢ k
-parent_apart h root sound k j node is parent e =
-    let l = sound.levels j node.name k (linked_parent h root sound k j node is parent) in
+pub parent_apart : (h : Heap) (root : ℕ) → IsOrdered h root → (k j : ℕ) (node : Node) → h k ≡ Some node → node.parent ≡ Some j → j ≢ k
+parent_apart h root o k j node is parent e =
+    let l = o.levels k j node.name (above_of h k j node is parent) in
     let m = ap (level_in h) e in
     omega arith
 

@@ -1,6 +1,6 @@
 -- What is done to the commands of one interpreter, in the words of the core.
-use Rattle.std.proofs.Common.{◌≡◌, ℕ, ◌∙◌, refl, sym, ap, inl, inr, true, false, List, Option, Some, None}
-use Rattle.std.specs.Prelude.{is_some, Result, Ok, Err, OnOk, OnErr, IfOk, IfErr, IfNone}
+use Rattle.std.proofs.Common.{[], ◌≡◌, ℕ, ◌∙◌, refl, sym, ap, inl, inr, true, false, List, Option, Some, None}
+use Rattle.std.specs.Prelude.{is_some, Result, Ok, Err, OnOk, OnErr, IfErr, IfNone}
 use Rattle.std.proofs.lemmas.Option.{same_Some}
 use Rattle.slab.specs.Slab as slab
 use Rattle.slab.specs.Slab.{Slab}
@@ -26,7 +26,12 @@ abbrev pub with_state : Node → State → Node
 with_state node new = record node { state = new }
 
 pub state_place : (node : Node) (new : State) → new.safe ≡ node.state.safe → SamePlace node (with_state node new)
-state_place node new e = record { parent = refl; name = refl; level = refl; children = refl; safe = e }
+state_place node new e = record { parent = refl; name = refl; level = refl; children = refl; safe = e; gone = refl }
+
+-- what is done to a name changes no depth
+pub named_depth : (r : Result (Unit {0}) TreeError) (naming : Naming) (old new : State) → OnOk r (Follows (named_so naming) old new) → IfErr r (λ e. StaysSo naming e old new) → new.depth ≡ old.depth
+named_depth (Ok x) naming old new h g = ap (λ (v : NodeView). v.depth) (h.rest [])
+named_depth (Err e) naming old new h g = ap (λ (v : NodeView). v.depth) (g.same [])
 
 module _ (s : Slab Node) (root : ℕ) (sound : IsSound (slab.get s) root) (p : Path) (k : ℕ) (at : follow (slab.get s) root p ≡ Some k)
     (node : Node) (new : State) (is : slab.get s k ≡ Some node) (safe : new.safe ≡ node.state.safe) where

@@ -17,7 +17,9 @@ use Rattle.tcl_tree.specs.Changes.{Rewrites}
 use Rattle.tcl_tree.specs.Lending.{with_frames, with_frames_at}
 use Rattle.tcl_interpreter.specs.declared.node.Node.{Node}
 use Rattle.tcl_tree.proofs.HeapLemmas.{SamePlace, tree-at}
-use Rattle.tcl_tree.proofs.StepLemmas.{tree_some, tree_write, sound_write, guarded_write, follow_write, leads_somewhere}
+use Rattle.tcl_tree.specs.Held.{held_in, IsOrdered}
+use Rattle.tcl_tree.proofs.DepthLemmas.{ordered_write}
+use Rattle.tcl_tree.proofs.StepLemmas.{held_write, tree_some, tree_write, sound_write, guarded_write, follow_write, leads_somewhere}
 use Rattle.tcl_tree.proofs.CoreLemmas.{node_done}
 
 -- a node that is put where it stands
@@ -59,28 +61,42 @@ module _ (s : Slab Node) (root : ℕ) (sound : IsSound (slab.get s) root) (p : P
     where
       by : (o : Option Node) → slab.get s key ≡ o → IsSound (slab.get (option_map_or (λ node. slab.with_value s key (with_frames node w)) o s)) root
       by None e = sound
-      by (Some node) e = sound_write s root sound p key leads node (with_frames node w) e (record { parent = refl; name = refl; level = refl; children = refl; safe = refl })
+      by (Some node) e = sound_write s root sound p key leads node (with_frames node w) e (record { parent = refl; name = refl; level = refl; children = refl; safe = refl; gone = refl })
 
   pub frames_guarded : IsGuarded (slab.get s) → IsGuarded (slab.get (with_frames_at s key w))
   frames_guarded g = by (slab.get s key) refl
     where
       by : (o : Option Node) → slab.get s key ≡ o → IsGuarded (slab.get (option_map_or (λ node. slab.with_value s key (with_frames node w)) o s))
       by None e = g
-      by (Some node) e = guarded_write s root sound p key leads node (with_frames node w) e (record { parent = refl; name = refl; level = refl; children = refl; safe = refl }) g
+      by (Some node) e = guarded_write s root sound p key leads node (with_frames node w) e (record { parent = refl; name = refl; level = refl; children = refl; safe = refl; gone = refl }) g
+
+  pub frames_held : (j : ℕ) → held_in (slab.get (with_frames_at s key w)) j ≡ held_in (slab.get s) j
+  frames_held j = by (slab.get s key) refl
+    where
+      by : (o : Option Node) → slab.get s key ≡ o → held_in (slab.get (option_map_or (λ node. slab.with_value s key (with_frames node w)) o s)) j ≡ held_in (slab.get s) j
+      by None e = refl
+      by (Some node) e = held_write s key node (with_frames node w) e (record { parent = refl; name = refl; level = refl; children = refl; safe = refl; gone = refl }) refl j
+
+  pub frames_ordered : IsOrdered (slab.get s) root → IsOrdered (slab.get (with_frames_at s key w)) root
+  frames_ordered g = by (slab.get s key) refl
+    where
+      by : (o : Option Node) → slab.get s key ≡ o → IsOrdered (slab.get (option_map_or (λ node. slab.with_value s key (with_frames node w)) o s)) root
+      by None e = g
+      by (Some node) e = ordered_write s key node (with_frames node w) e (record { parent = refl; name = refl; level = refl; children = refl; safe = refl; gone = refl }) refl root g
 
   pub frames_tree : Rewrites (tree_in (slab.get s) root) (tree_in (slab.get (with_frames_at s key w)) root) p (λ own. record own { chain = w })
   frames_tree = by (slab.get s key) refl
     where
       by : (o : Option Node) → slab.get s key ≡ o → Rewrites (tree_in (slab.get s) root) (tree_in (slab.get (option_map_or (λ node. slab.with_value s key (with_frames node w)) o s)) root) p (λ own. record own { chain = w })
       by None e = absurd (leads_somewhere (slab.get s) root sound p key leads e)
-      by (Some node) e = own_write s root sound p key leads node (with_frames node w) e (record { parent = refl; name = refl; level = refl; children = refl; safe = refl }) (λ own. record own { chain = w }) refl
+      by (Some node) e = own_write s root sound p key leads node (with_frames node w) e (record { parent = refl; name = refl; level = refl; children = refl; safe = refl; gone = refl }) (λ own. record own { chain = w }) refl
 
   pub frames_keys : (q : Path) → follow (slab.get (with_frames_at s key w)) root q ≡ follow (slab.get s) root q
   frames_keys = by (slab.get s key) refl
     where
       by : (o : Option Node) → slab.get s key ≡ o → (q : Path) → follow (slab.get (option_map_or (λ node. slab.with_value s key (with_frames node w)) o s)) root q ≡ follow (slab.get s) root q
       by None e = λ q. refl
-      by (Some node) e = follow_write s root sound p key leads node (with_frames node w) e (record { parent = refl; name = refl; level = refl; children = refl; safe = refl })
+      by (Some node) e = follow_write s root sound p key leads node (with_frames node w) e (record { parent = refl; name = refl; level = refl; children = refl; safe = refl; gone = refl })
 
 -- where the key leads somewhere or nowhere
 pub chain_value : (h : ℕ → Option Node) (root : ℕ) (p : Path) (k : ℕ) → follow h root p ≡ Some k → option_map (λ (node : Node). node.state.frames) (h k) ≡ option_map (λ (n : NodeView). n.own.chain) (tree_in h root p)

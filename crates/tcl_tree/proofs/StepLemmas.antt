@@ -7,12 +7,12 @@ use Rattle.std.proofs.lemmas.List.{drop_more, drop_all}
 use Rattle.std.proofs.lemmas.Bool.{cases_eq}
 use Rattle.indexmap.specs.IndexMap.{get, keys}
 use Rattle.std.proofs.lemmas.Option.{MatchOption-at_some, MatchOption-at_none, same_Some}
-use Rattle.std.specs.Prelude.{Result, Ok, Err, OnOk, OnErr, IsOk, IfSome, ⊤}
+use Rattle.std.specs.Prelude.{Result, Ok, Err, OnErr, IfSome, ⊤}
 use Rattle.std.specs.Map.{lookup, keys_of}
 use Rattle.slab.specs.Slab as slab
 use Rattle.slab.specs.Slab.{Slab}
 use Rattle.tcl_interpreter.specs.Paths.{Text, Path, is_above, ancestor, with_node}
-use Rattle.tcl_tree.specs.Nodes.{Heap, NodeView, view_of, state_view, full_of, full_up, charged, charged_below, child_in, follow, tree_in, link_of, link_in, level_in, safe_in, children_in, IsSound, IsGuarded}
+use Rattle.tcl_tree.specs.Nodes.{Heap, NodeView, view_of, state_view, full_of, full_up, charged, charged_below, child_in, follow, tree_in, link_of, link_in, level_in, safe_in, children_in, place_of, IsSound, IsGuarded}
 use Rattle.tcl_tree.specs.TreeOf.{alone}
 use Rattle.tcl_interpreter.specs.declared.node.Node.{Node}
 use Rattle.tcl_interpreter.specs.declared.node.State.{State}
@@ -20,7 +20,8 @@ use Rattle.tcl_interpreter.specs.declared.node.Meter.{Meter}
 use Rattle.tcl_interpreter.specs.declared.node.Meter.TheVariants.{Steps, Levels, Back}
 use Rattle.tcl_interpreter.proofs.PathLemmas.{path_cases, ends_cases, ancestor_length, ancestor_front, ancestor_above, above_same, test_cases, above_fits}
 use Rattle.slab.proofs.SlabLemmas.{Updates-with_value}
-use Rattle.tcl_tree.proofs.HeapLemmas.{follow-nil, same_link, last_step, tree-at, tree-none, SamePlace, sound-same, guarded-same, follow-same, level-same, tree-same, then_child, linked}
+use Rattle.tcl_tree.proofs.HeapLemmas.{follow-nil, same_link, last_step, tree-at, tree-none, SamePlace, sound-same, guarded-same, follow-same, level-same, child-same, at_each, tree-same, then_child, linked}
+use Rattle.tcl_tree.specs.Held.{held_by, held_in}
 
 pub child-at : (h : Heap) (k : ℕ) (n : Text) (node : Node) → h k ≡ Some node → child_in h k n ≡ get bytes_eq node.children n
 unfolding child_in
@@ -108,17 +109,17 @@ vacant_slots s e k = ap (λ l. slice_index_or l k None) e ∙ by k
 -- a table with one node
 module _ (h : Heap) (root : ℕ) (node : Node) (is : h root ≡ Some node) (parent : node.parent ≡ None) (fits : node.level < 2 ^ 64) (leaf : node.children.entries ≡ [])
     (rest : (k : ℕ) → k ≢ root → h k ≡ None) where
-  no-child : (k : ℕ) (n : Text) → child_in h k n ≡ None
+  pub no-child : (k : ℕ) (n : Text) → child_in h k n ≡ None
   no-child k n = elim (cases_eq k root) [
     | inl e ↦ ap (λ j. child_in h j n) e ∙ child-at h root n node is ∙ ap (lookup (bytes_eq n)) leaf
     | inr other ↦ child-none h k n (rest k other)
   ]
 
-  top-link : link_in h root ≡ Some None
+  pub top-link : link_in h root ≡ Some None
   unfolding link_in
   top-link = ap (option_map link_of) is ∙ ap (λ o. Some (option_map (λ k. (k, node.name)) o)) parent
 
-  no-link : (k : ℕ) → k ≢ root → link_in h k ≡ None
+  pub no-link : (k : ℕ) → k ≢ root → link_in h k ≡ None
   unfolding link_in
   no-link k other = ap (option_map link_of) (rest k other)
 
@@ -126,10 +127,6 @@ module _ (h : Heap) (root : ℕ) (node : Node) (is : h root ≡ Some node) (pare
   sound-single = record {
     top = top-link;
     down = λ k n c e. let w = no-child k n in cc;
-    up = λ c k n e. elim (cases_eq c root) [
-      | inl same ↦ let x : Some None ≡ Some (Some (k, n)) = sym top-link ∙ sym (ap (link_in h) same) ∙ e in cc
-      | inr other ↦ let x : None ≡ Some (Some (k, n)) = sym (no-link c other) ∙ e in cc
-    ];
     alone = λ c e. elim (cases_eq c root) [
       | inl same ↦ same
       | inr other ↦ let x : None ≡ Some None = sym (no-link c other) ∙ e in cc
@@ -193,6 +190,31 @@ module _ (s : Slab Node) (root : ℕ) (sound : IsSound (slab.get s) root) (p : P
   tree_write g e q =
       tree-same (slab.get s) (slab.get (slab.with_value s k new)) k old new is updates-write.changed same updates-write.others root sound p at q
       ∙ ap (λ v. with_node (tree_in (slab.get s) root) p v q) (sym (ap (option_map g) (tree_some (slab.get s) root p k old at is) ∙ ap Some e))
+
+-- a write at a key, of which nothing but its place is looked at
+module _ (s : Slab Node) (k : ℕ) (old new : Node) (is : slab.get s k ≡ Some old) (same : SamePlace old new) where
+  written : slab.Updates s (slab.with_value s k new) k (Some new)
+  written = Updates-with_value s k new (ap is_some is)
+
+  pub others_write : (j : ℕ) → j ≢ k → slab.get (slab.with_value s k new) j ≡ slab.get s j
+  others_write = written.others
+
+  pub place_write : (j : ℕ) → option_map place_of (slab.get (slab.with_value s k new) j) ≡ option_map place_of (slab.get s j)
+  place_write = at_each (slab.get s) (slab.get (slab.with_value s k new)) k old new is written.changed same written.others (option_map place_of)
+      (λ i. Some (same.parent i, same.name i, same.level i, same.children i, same.safe i, same.gone i))
+
+  pub child_write : (j : ℕ) (n : Text) → child_in (slab.get (slab.with_value s k new)) j n ≡ child_in (slab.get s) j n
+  child_write = child-same (slab.get s) (slab.get (slab.with_value s k new)) k old new is written.changed same written.others
+
+  pub levels_write : (j : ℕ) → level_in (slab.get (slab.with_value s k new)) j ≡ level_in (slab.get s) j
+  levels_write = level-same (slab.get s) (slab.get (slab.with_value s k new)) k old new is written.changed same written.others
+
+  -- and its depth
+  module _ (depth : new.state.depth ≡ old.state.depth) where
+    pub held_write : (j : ℕ) → held_in (slab.get (slab.with_value s k new)) j ≡ held_in (slab.get s) j
+    unfolding held_in
+    held_write = at_each (slab.get s) (slab.get (slab.with_value s k new)) k old new is written.changed same written.others (option_map held_by)
+        (λ i. Some (record { above = option_map (λ j. (j, same.name i)) (same.parent i); depth = depth i; gone = same.gone i }))
 
 pub at_some : {T : Type 0} (o : Option T) (P : T → Type 0) (x : T) → o ≡ Some x → IfSome o P → P x
 at_some o P x e h = MatchOption-at_some ⊤ P x e h

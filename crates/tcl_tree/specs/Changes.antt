@@ -17,7 +17,7 @@ use Rattle.tcl_tree.specs.Nodes.{NodeView}
 use Rattle.tcl_interpreter.specs.declared.refusal.TreeError.{TreeError}
 use Rattle.tcl_interpreter.specs.declared.refusal.TreeError.TheVariants.{Memory, BadName}
 use Rattle.tcl_interpreter.specs.declared.refusal.TreeError.TheVariants.{NoInterpreter, Exists}
-use Rattle.tcl_interpreter.specs.declared.refusal.TreeError.TheVariants.{InUse, Denied, BadCount}
+use Rattle.tcl_interpreter.specs.declared.refusal.TreeError.TheVariants.{Denied, BadCount}
 use Rattle.tcl_interpreter.specs.declared.refusal.TreeError.TheVariants.{BadDepthLimit, TooMany}
 use Rattle.tcl_interpreter.specs.declared.refusal.TreeError.TheVariants.{CountLimit, DepthLimit}
 
@@ -77,10 +77,9 @@ abbrev pub Drops : (Path → Option NodeView) → (Path → Option NodeView) →
 Drops old new p n = (v : NodeView) → old p ≡ Some v →
     new ≡ effect (p ++ n ∷ []) Dropped (effect p (Changed (without_old_child n v.own)) old)
 
--- none is dropped that isn't there, or in which an evaluation is in progress
+-- none is dropped that isn't there
 abbrev pub RefusesDrop : TreeError → (Path → Option NodeView) → Path → Text → Type 0
 RefusesDrop NoInterpreter f p n = f (p ++ n ∷ []) ≡ None
-RefusesDrop InUse f p n = (v : NodeView) × (f (p ++ n ∷ []) ≡ Some v) × (0 < v.depth)
 RefusesDrop _ f p n = Prim.⊥
 
 -- ## Limits

@@ -1,6 +1,6 @@
 -- Copies of what stands at a key of a table and below it, in a table of their own.
 use Rattle.std.specs.Prelude.{◌≡◌, ◌⊎◌, ℕ, suc, ◌+◌, ◌-◌, ◌^◌, List, [], ◌∷◌, drop, length, take}
-use Rattle.std.specs.Prelude.{Option, Some, None, slice_get}
+use Rattle.std.specs.Prelude.{Some, None, slice_get}
 use Rattle.indexmap.specs.IndexMap.{keys}
 use Rattle.slab.specs.Slab as slab
 use Rattle.slab.specs.Slab.{Slab}
@@ -8,6 +8,7 @@ use Rattle.tcl_interpreter.specs.Paths.{Text, Path}
 use Rattle.tcl_tree.specs.Nodes.{Heap, Joined, IsSound, IsGuarded, state_view, child_in}
 use Rattle.tcl_tree.specs.Nodes.{children_in, follow, level_in, tree_in}
 use Rattle.tcl_interpreter.specs.Copying.{IsBare}
+use Rattle.tcl_tree.specs.Held.{IsOrdered}
 use Rattle.tcl_tree.specs.Walking.{entries_in, sum_of, weight}
 use Rattle.tcl_interpreter.specs.declared.node.Node.{Node}
 
@@ -46,6 +47,7 @@ pub record Adds (h : Heap) (s t : Slab Node) (k twin c d : ℕ) : Type 0 where
 pub record IsPart (h g : Heap) (top root : ℕ) : Type 0 where
   pub sound : IsSound g root
   pub guarded : IsGuarded g
+  pub ordered : IsOrdered g root
   pub like : (p : Path) (k t : ℕ) → follow h top p ≡ Some k → follow g root p ≡ Some t →
       IsLike h g k t
 
@@ -53,6 +55,7 @@ pub record IsPart (h g : Heap) (top root : ℕ) : Type 0 where
 pub record IsCopy (h g : Heap) (top root : ℕ) : Type 0 where
   pub sound : IsSound g root
   pub guarded : IsGuarded g
+  pub ordered : IsOrdered g root
   pub same : (q : Path) → tree_in g root q ≡ tree_in h top q
 
 -- names lead to both keys

@@ -1,10 +1,11 @@
 -- What a tree lends.
-use Rattle.std.specs.Prelude.{◌≡◌, Option, IsSome}
+use Rattle.std.specs.Prelude.{◌≡◌, ℕ, Option, IsSome}
 use Rattle.std.specs.Borrow.{LendsSo, MutBor, Fml}
 use Rattle.tcl_frames.specs.Chain.{Chain}
 use Rattle.tcl_frames.specs.contracts.frames.Frames.{the_row as frames_row}
 use Rattle.tcl_interpreter.specs.Paths.{Path}
 use Rattle.tcl_tree.specs.Changes.{Rewrites}
+use Rattle.tcl_tree.specs.Gone.{held_of}
 use Rattle.tcl_tree.specs.TreeOf.{tree_of, key_of, marks_of, Names}
 use Rattle.tcl_tree.specs.declared.tree.Tree.{Tree}
 use Rattle.tcl_tree.specs.declared.tree.Place.{Place}
@@ -14,12 +15,14 @@ use Rattle.tcl_tree.specs.contracts.tree.Tree.{the_row}
 pub record IsAsBefore (old new : Tree) : Type 0 where
   pub tree : tree_of new ≡ tree_of old
   pub keys : (q : Path) → key_of new q ≡ key_of old q
+  pub held : (k : ℕ) → held_of new k ≡ held_of old k
   pub marks : marks_of new ≡ marks_of old
 
 -- the interpreter at p has these frames, and nothing else changed
 pub record HasFrames (old new : Tree) (p : Path) (chain : Chain) : Type 0 where
   pub tree : Rewrites (tree_of old) (tree_of new) p (λ own. record own { chain = chain })
   pub keys : (q : Path) → key_of new q ≡ key_of old q
+  pub held : (k : ℕ) → held_of new k ≡ held_of old k
   pub marks : marks_of new ≡ marks_of old
 
 -- Once the borrow ends, the interpreter at the path has the frames that were left; at `None` the

@@ -4,10 +4,12 @@ pub use Rattle.tcl_interpreter.specs.Own
 pub use Rattle.tcl_interpreter.specs.Paths
 pub use Rattle.tcl_interpreter.specs.Refusals
 pub mod Nodes
+pub mod Held
 pub mod Walking
 pub mod Copying
 pub mod TreeOf
 pub mod Changes
+pub mod Gone
 pub mod Lending
 pub mod LendingTree
 pub mod Naming

@@ -13,6 +13,7 @@ pub use Rattle.tcl_interpreter.specs.Nodes.{full_of, moved, with_child, without_
 pub use Rattle.tcl_interpreter.specs.Nodes.{shape_of, shape_at, SameTable, Attached, Joined}
 pub use Rattle.tcl_interpreter.specs.Nodes.{Detached}
 use Rattle.tcl_interpreter.specs.declared.node.Node.{Node}
+use Rattle.tcl_interpreter.specs.declared.node.Meter.{Meter}
 
 -- what stands at each key
 abbrev pub Heap : Type 0
@@ -41,11 +42,10 @@ link_in h k = option_map link_of (h k)
 unfoldable pub level_in : Heap → ℕ → ℕ
 level_in h k = option_map_or (λ node. node.level) (h k) 0
 
--- parents and children fit together, and the root is the one node with no parent
+-- children have their parents, and the root is the one node with no parent
 pub record IsSound (h : Heap) (root : ℕ) : Type 0 where
   pub top : link_in h root ≡ Some None
   pub down : (k : ℕ) (n : Text) (c : ℕ) → child_in h k n ≡ Some c → link_in h c ≡ Some (Some (k, n))
-  pub up : (c k : ℕ) (n : Text) → link_in h c ≡ Some (Some (k, n)) → child_in h k n ≡ Some c
   pub alone : (c : ℕ) → link_in h c ≡ Some None → c ≡ root
   pub levels : (k : ℕ) (n : Text) (c : ℕ) → child_in h k n ≡ Some c → level_in h c ≡ level_in
       h k + 1
@@ -102,6 +102,24 @@ pub record IsNearestFull (full : NodeView → Bool) (f : Tree_fn) (p : Path) (le
 -- no node above the path is full, nor the one there
 abbrev pub NoneFull : (NodeView → Bool) → Tree_fn → Path → Type 0
 NoneFull full f p = (m : ℕ) → m ≤ length p → full_up full f p m ≡ false
+
+-- what there is of a node but for its meters, its own part and the room of its maps
+abbrev pub place_of : Node → Option ℕ × Text × ℕ × List (Text × ℕ) × Bool × Bool
+place_of node = (
+  node.parent,
+  node.name,
+  node.level,
+  node.children.entries,
+  node.state.safe,
+  node.gone,
+)
+
+-- the meter was moved at the path and above it, and nothing else changed
+pub record Raised (meter : Meter) (h h₁ : Heap) (root : ℕ) (p : Path) : Type 0 where
+  pub tree : (q : Path) → tree_in h₁ root q ≡ charged (moved meter) (tree_in h root) p q
+  pub places : (k : ℕ) → option_map place_of (h₁ k) ≡ option_map place_of (h k)
+  pub others : (k : ℕ) → ((q : Path) → is_above q p ≡ true → follow h root q ≡ Some k → ⊥) →
+      h₁ k ≡ h k
 
 -- the tree in which the lowest so many nodes above the path are charged
 unfoldable pub charged_below : (NodeView → NodeView) → Tree_fn → Path → ℕ → Tree_fn

@@ -1,6 +1,7 @@
 //! The interpreters of a tree, in one table: their frames, commands and limits.
 #![tactic(auto)]
 
+pub mod laws;
 pub mod tree;
 
 pub use tcl_interpreter::{alias, builtin, command, node, parameter, procedure, refusal};

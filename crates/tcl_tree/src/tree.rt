@@ -4,6 +4,7 @@ ghost use Rattle.std.specs.Prelude.{IfErr, OnOk, OnErr, Some, None, option_map, 
 ghost use Rattle.std.specs.Option.{option_copied};
 ghost use Rattle.slab.specs.Slab.{get};
 ghost use Rattle.tcl_tree.specs.Nodes.{IsSound, IsGuarded};
+ghost use Rattle.tcl_tree.specs.Held.{IsOrdered};
 
 use crate::tree::limits::MOST_DEPTH;
 use indexmap::IndexMap;
@@ -19,15 +20,18 @@ pub mod children;
 mod commands;
 mod comparing;
 mod copying;
+mod gone;
 mod hiding;
 pub mod limits;
 mod looks;
+mod meters;
 mod naming;
 pub mod places;
 mod readings;
 mod variables;
 
-/// An interpreter that is reached with no walk along its path: its key.
+/// An interpreter that is reached with no walk along its path: its key. Where an evaluation is in
+/// progress in it, it keeps its key also when it is deleted.
 #[derive(Clone, Copy, Debug, Drop)]
 pub struct Place {
     key: usize,
@@ -46,6 +50,7 @@ pub struct Tree {
     alloc: Global,
     ghost sound: { IsSound (get nodes) root },
     ghost guarded: { IsGuarded (get nodes) },
+    ghost ordered: { IsOrdered (get nodes) root },
 }
 
 impl Drop for Tree {
@@ -68,6 +73,7 @@ impl Tree {
     ghost use Rattle.tcl_tree.specs.Nodes.{NoneFull, IsNearestFull, charged, full_of, moved};
     ghost use Rattle.tcl_tree.specs.Nodes.{view_of};
     ghost use Rattle.tcl_tree.specs.TreeOf.{tree_of, key_of, marks_of, alone, new_root};
+    ghost use Rattle.tcl_tree.specs.Gone.{held_of};
 
     /// A tree of a root alone, with the built-in commands; integer texts are read as Tcl 8 does.
     ///
@@ -100,6 +106,7 @@ impl Tree {
             name,
             level: 0,
             children: IndexMap::new(alloc),
+            gone: false,
             state,
         });
         Ok(Tree {
@@ -132,6 +139,7 @@ impl Tree {
             { integers = (marks_of self.old).integers; broken = true } }
         ensures tree { tree_of self.new ≡ tree_of self.old }
         ensures keys { key_of self.new ≡ key_of self.old }
+        ensures held { (k : ℕ) → held_of self.new k ≡ held_of self.old k }
     {
         self.broken = true;
     }
@@ -177,27 +185,6 @@ impl Tree {
             };
             at = parent;
             level += 1;
-        }
-    }
-
-    // Moves the meter of the node and of those above it.
-    fn raise(&mut self, key: usize, meter: Meter)
-        requires { (p : List (List ℕ)) × (key_of self.old p ≡ Some key) ×
-            NoneFull (full_of meter) (tree_of self.old) p }
-        ensures keys { (q : List (List ℕ)) → key_of self.new q ≡ key_of self.old q }
-        ensures marks { marks_of self.new ≡ marks_of self.old }
-        ensures charged { (p : List (List ℕ)) → key_of self.old p ≡ Some key → (q : List (List ℕ)) →
-            tree_of self.new q ≡ charged (moved meter) (tree_of self.old) p q }
-    {
-        let mut next = Some(key);
-        'climb: while let Some(at) = next {
-            next = match self.nodes.get_mut(at) {
-                Some(node) => {
-                    node.state.advance(meter);
-                    node.parent
-                }
-                None => None,
-            };
         }
     }
 }

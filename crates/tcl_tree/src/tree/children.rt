@@ -1,7 +1,6 @@
 //! Children: interpreters that are made and deleted.
 ghost use Rattle.std.specs.Prelude.{◌≡◌, ◌≢◌, ◌+◌, List, ℕ, Bool, true, false, [], ◌∷◌, ◌++◌, IfOk};
 ghost use Rattle.std.specs.Prelude.{IfErr, OnOk, OnErr, Some, None, IsSome};
-ghost use Rattle.slab.specs.Slab.{slab_len};
 ghost use Rattle.tcl_core.specs.Programs.{either};
 ghost use Rattle.tcl_tree.specs.Changes.{interp_name, IsFirstFree, RefusesName};
 ghost use Rattle.tcl_interpreter.specs.declared.refusal.TreeError.TheVariants.{Memory};
@@ -55,6 +54,8 @@ impl Tree {
     ghost use Rattle.tcl_tree.specs.Nodes.{NodeView, IsLeaf, pruned};
     ghost use Rattle.tcl_tree.specs.Changes.{MayMake, Makes, RefusesMake, Drops, RefusesDrop};
     ghost use Rattle.tcl_tree.specs.TreeOf.{tree_of, key_of, marks_of, Names};
+    ghost use Rattle.tcl_tree.specs.Held.{Gains, Parts, parted, standing};
+    ghost use Rattle.tcl_tree.specs.Gone.{held_of};
 
     /// The name that a child of the interpreter at the path gets where none is given: `interp` and
     /// the least number with which it is no command there.
@@ -110,6 +111,8 @@ impl Tree {
         ensures unchanged { OnErr result (tree_of self.new ≡ tree_of self.old) }
         ensures keys { (q : List (List ℕ)) (k : ℕ) → key_of self.old q ≡ Some k →
             key_of self.new q ≡ Some k }
+        ensures gains { OnOk result (Gains (held_of self.old) (held_of self.new)) }
+        ensures held { OnErr result ((k : ℕ) → held_of self.new k ≡ held_of self.old k) }
         ensures marks { marks_of self.new ≡ marks_of self.old }
     {
         let Some(place) = self.place(path) else {
@@ -141,6 +144,8 @@ impl Tree {
         ensures unchanged { OnErr result (tree_of self.new ≡ tree_of self.old) }
         ensures keys { (q : List (List ℕ)) (k : ℕ) → key_of self.old q ≡ Some k →
             key_of self.new q ≡ Some k }
+        ensures gains { OnOk result (Gains (held_of self.old) (held_of self.new)) }
+        ensures held { OnErr result ((k : ℕ) → held_of self.new k ≡ held_of self.old k) }
         ensures marks { marks_of self.new ≡ marks_of self.old }
     {
         let parent = place.key;
@@ -174,6 +179,7 @@ impl Tree {
             name: own_name,
             level,
             children: IndexMap::new(alloc),
+            gone: false,
             state,
         };
         attach(&mut self.nodes, parent, label, twin, node);
@@ -200,8 +206,8 @@ impl Tree {
         }
     }
 
-    // Removes a node that has no children and is not the root, and answers with the key of its
-    // parent.
+    // Takes a node that has no children and is not the root out of the tree, and answers with the
+    // key of its parent. It stays in the table where it is in use.
     fn prune(&mut self, key: usize) -> usize
         requires there { (p : List (List ℕ)) × (n : List ℕ) ×
             (key_of self.old (p ++ n ∷ []) ≡ Some key) }
@@ -212,8 +218,12 @@ impl Tree {
             key_of self.old (p ++ n ∷ []) ≡ Some key → key_of self.new p ≡ Some result }
         ensures keys { (q : List (List ℕ)) (k : ℕ) → key_of self.old q ≡ Some k → k ≢ key →
             key_of self.new q ≡ Some k }
+        ensures before { (q : List (List ℕ)) (k : ℕ) → key_of self.new q ≡ Some k →
+            key_of self.old q ≡ Some k }
         ensures marks { marks_of self.new ≡ marks_of self.old }
-        ensures len { slab_len self.new.nodes + 1 ≡ slab_len self.old.nodes }
+        ensures parted { held_of self.new key ≡ parted (held_of self.old key) }
+        ensures others { (k : ℕ) → k ≢ key → held_of self.new k ≡ held_of self.old k }
+        ensures fewer { standing self.new.nodes + 1 ≡ standing self.old.nodes }
     {
         let Some(node) = self.nodes.get(key) else {
             unreachable!();
@@ -225,7 +235,7 @@ impl Tree {
         parent
     }
 
-    // Removes a node that is not the root, with all below it.
+    // Takes a node that is not the root, with all below it, out of the tree.
     fn fell(&mut self, top: usize)
         requires { (p : List (List ℕ)) × (n : List ℕ) × (key_of self.old (p ++ n ∷ []) ≡ Some top) }
         ensures dropped { (p : List (List ℕ)) (n : List ℕ) →
@@ -234,6 +244,9 @@ impl Tree {
         ensures keys { (p : List (List ℕ)) (n : List ℕ) → key_of self.old (p ++ n ∷ []) ≡ Some top →
             (q : List (List ℕ)) (k : ℕ) → is_above (p ++ n ∷ []) q ≡ false →
             key_of self.old q ≡ Some k → key_of self.new q ≡ Some k }
+        ensures parts { (p : List (List ℕ)) (n : List ℕ) →
+            key_of self.old (p ++ n ∷ []) ≡ Some top →
+            Parts (held_of self.old) (key_of self.old) (p ++ n ∷ []) (held_of self.new) }
         ensures marks { marks_of self.new ≡ marks_of self.old }
     {
         let mut at = top;
@@ -246,16 +259,14 @@ impl Tree {
         }
     }
 
-    /// Deletes the child of this name of the interpreter at the path, with all below it. This takes
+    /// Deletes the child of this name of the interpreter at the path, with all below it. Those in
+    /// which an evaluation is in progress are gone, and stay in the table until it ends. This takes
     /// no memory.
     ///
     /// # Errors
-    /// TreeError 301 where there is none, and 303 where an evaluation is in progress in it.
+    /// TreeError 301 where there is none.
     pub fn delete(&mut self, path: &[Text], name: &Text) -> Result<(), TreeError>
         ensures there { OnOk result (IsSome (tree_of self.old (path.now ++ name.now ∷ []))) }
-        ensures idle { OnOk result
-            ((v : NodeView) → tree_of self.old (path.now ++ name.now ∷ []) ≡ Some v →
-            v.depth ≡ 0) }
         ensures dropped { OnOk result
             (Drops (tree_of self.old) (tree_of self.new) path.now name.now) }
         ensures refused { IfErr result (λ e. RefusesDrop e (tree_of self.old) path.now name.now) }
@@ -264,6 +275,9 @@ impl Tree {
         ensures keys { (q : List (List ℕ)) (k : ℕ) →
             is_above (path.now ++ name.now ∷ []) q ≡ false → key_of self.old q ≡ Some k →
             key_of self.new q ≡ Some k }
+        ensures parts { OnOk result (Parts (held_of self.old) (key_of self.old)
+            (path.now ++ name.now ∷ []) (held_of self.new)) }
+        ensures held { OnErr result ((k : ℕ) → held_of self.new k ≡ held_of self.old k) }
         ensures marks { marks_of self.new ≡ marks_of self.old }
     {
         let Some(key) = self.find(path) else {
@@ -273,16 +287,15 @@ impl Tree {
     }
 
     /// Deletes the child of this name of the interpreter that the place names, with all below it.
+    /// Those in which an evaluation is in progress are gone, and stay in the table until it ends.
     /// This takes no memory.
     ///
     /// # Errors
-    /// TreeError 301 where there is none, and 303 where an evaluation is in progress in it.
+    /// TreeError 301 where there is none.
     pub fn delete_at(&mut self, place: Place, name: &Text) -> Result<(), TreeError>
         requires { (p : List (List ℕ)) × Names self.old place p }
         ensures there { OnOk result ((p : List (List ℕ)) → Names self.old place p →
             IsSome (tree_of self.old (p ++ name.now ∷ []))) }
-        ensures idle { OnOk result ((p : List (List ℕ)) → Names self.old place p → (v : NodeView) →
-            tree_of self.old (p ++ name.now ∷ []) ≡ Some v → v.depth ≡ 0) }
         ensures dropped { OnOk result ((p : List (List ℕ)) → Names self.old place p →
             Drops (tree_of self.old) (tree_of self.new) p name.now) }
         ensures refused { IfErr result
@@ -293,6 +306,9 @@ impl Tree {
         ensures keys { (p : List (List ℕ)) → Names self.old place p → (q : List (List ℕ)) (k : ℕ) →
             is_above (p ++ name.now ∷ []) q ≡ false → key_of self.old q ≡ Some k →
             key_of self.new q ≡ Some k }
+        ensures parts { OnOk result ((p : List (List ℕ)) → Names self.old place p →
+            Parts (held_of self.old) (key_of self.old) (p ++ name.now ∷ []) (held_of self.new)) }
+        ensures held { OnErr result ((k : ℕ) → held_of self.new k ≡ held_of self.old k) }
         ensures marks { marks_of self.new ≡ marks_of self.old }
     {
         let Some(up) = self.nodes.get(place.key) else {
@@ -302,12 +318,6 @@ impl Tree {
             return Err(TreeError::NoInterpreter);
         };
         let top = *child;
-        let Some(node) = self.nodes.get(top) else {
-            return Err(TreeError::NoInterpreter);
-        };
-        if node.state.depth > 0 {
-            return Err(TreeError::InUse);
-        }
         self.fell(top);
         Ok(())
     }

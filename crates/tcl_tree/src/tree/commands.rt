@@ -19,6 +19,7 @@ impl Tree {
     ghost use Rattle.tcl_tree.specs.Naming.{Becomes, RefusesThere, RefusesAt, Renames};
     ghost use Rattle.tcl_tree.specs.Naming.{RefusesRename, named, cleared};
     ghost use Rattle.tcl_tree.specs.TreeOf.{tree_of, key_of, marks_of, Names};
+    ghost use Rattle.tcl_tree.specs.Gone.{held_of};
     ghost use Rattle.tcl_interpreter.specs.declared.command.Command.TheVariants as command;
 
     /// What a name stands for among the commands of the interpreter that the place names. This
@@ -77,6 +78,7 @@ impl Tree {
             (λ own. named own name (command.Alias alias))) }
         ensures unchanged { OnErr result (tree_of self.new ≡ tree_of self.old) }
         ensures keys { (q : List (List ℕ)) → key_of self.new q ≡ key_of self.old q }
+        ensures held { (k : ℕ) → held_of self.new k ≡ held_of self.old k }
         ensures marks { marks_of self.new ≡ marks_of self.old }
     {
         let Some(place) = self.place(path) else {
@@ -108,6 +110,7 @@ impl Tree {
             (λ own. named own name (command.Alias (way_between from.now to.now words.items)))) }
         ensures unchanged { OnErr result (tree_of self.new ≡ tree_of self.old) }
         ensures keys { (q : List (List ℕ)) → key_of self.new q ≡ key_of self.old q }
+        ensures held { (k : ℕ) → held_of self.new k ≡ held_of self.old k }
         ensures marks { marks_of self.new ≡ marks_of self.old }
     {
         let Some(place) = self.place(from) else {
@@ -135,6 +138,7 @@ impl Tree {
             (λ own. named own name (command.Procedure procedure))) }
         ensures unchanged { OnErr result (tree_of self.new ≡ tree_of self.old) }
         ensures keys { (q : List (List ℕ)) → key_of self.new q ≡ key_of self.old q }
+        ensures held { (k : ℕ) → held_of self.new k ≡ held_of self.old k }
         ensures marks { marks_of self.new ≡ marks_of self.old }
     {
         let Some(place) = self.place(path) else {
@@ -155,6 +159,7 @@ impl Tree {
             (λ e. RefusesThere e (tree_of self.old) path.now (λ own. cleared own name.now)) }
         ensures unchanged { OnErr result (tree_of self.new ≡ tree_of self.old) }
         ensures keys { (q : List (List ℕ)) → key_of self.new q ≡ key_of self.old q }
+        ensures held { (k : ℕ) → held_of self.new k ≡ held_of self.old k }
         ensures marks { marks_of self.new ≡ marks_of self.old }
     {
         let Some(place) = self.place(path) else {

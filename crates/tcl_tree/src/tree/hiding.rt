@@ -11,6 +11,7 @@ impl Tree {
     ghost use Rattle.tcl_tree.specs.Naming.{RefusesAsked, hidden_under, exposed_under};
     ghost use Rattle.tcl_tree.specs.Order.{FirstOfAsked};
     ghost use Rattle.tcl_tree.specs.TreeOf.{tree_of, key_of, marks_of, Names};
+    ghost use Rattle.tcl_tree.specs.Gone.{held_of};
 
     // The key of the interpreter at a path, where that is trusted.
     pub(crate) fn asker(&self, path: &[Text]) -> Result<usize, TreeError>
@@ -74,6 +75,7 @@ impl Tree {
             (λ own. hidden_under own name.now hidden)) }
         ensures unchanged { OnErr result (tree_of self.new ≡ tree_of self.old) }
         ensures keys { (q : List (List ℕ)) → key_of self.new q ≡ key_of self.old q }
+        ensures held { (k : ℕ) → held_of self.new k ≡ held_of self.old k }
         ensures marks { marks_of self.new ≡ marks_of self.old }
     {
         let place = self.asked(path, down)?;
@@ -107,6 +109,7 @@ impl Tree {
             (λ own. exposed_under own hidden.now name)) }
         ensures unchanged { OnErr result (tree_of self.new ≡ tree_of self.old) }
         ensures keys { (q : List (List ℕ)) → key_of self.new q ≡ key_of self.old q }
+        ensures held { (k : ℕ) → held_of self.new k ≡ held_of self.old k }
         ensures marks { marks_of self.new ≡ marks_of self.old }
     {
         let place = self.asked(path, down)?;

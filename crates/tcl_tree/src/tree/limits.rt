@@ -1,10 +1,12 @@
 //! Steps and levels: what is counted in an interpreter and in all above it.
 ghost use Rattle.std.specs.Prelude.{◌≡◌, ◌++◌, List, ℕ, IfOk, IfErr, OnOk, OnErr, Some, None, []};
-ghost use Rattle.std.specs.Prelude.{IsSome};
+ghost use Rattle.std.specs.Prelude.{IsSome, ◌≢◌};
 
+use crate::tree::meters::raise;
 use crate::tree::{Place, Tree};
 use tcl_interpreter::node::{MOST_STEPS, Meter};
 use tcl_interpreter::refusal::TreeError;
+use tcl_interpreter::steps::ease;
 use tcl_text::text::Text;
 
 /// The greatest limit of depth.
@@ -18,11 +20,15 @@ impl Tree {
     ghost use Rattle.tcl_tree.specs.Order.{FirstOfDepth};
     ghost use Rattle.tcl_tree.specs.Nodes.{NoneFull, IsNearestFull, charged, full_of, moved};
     ghost use Rattle.tcl_tree.specs.TreeOf.{tree_of, key_of, marks_of, Names};
+    ghost use Rattle.tcl_tree.specs.Gone.{held_of, Holds};
+    ghost use Rattle.tcl_tree.specs.Held.{Deepens, Shallows, IsInnermost};
+    ghost use Rattle.tcl_interpreter.specs.declared.node.Meter.TheVariants.{Steps, Levels, Back};
 
     // Moves a meter of the interpreter and of those above it, or says how many levels up it is
     // full.
     fn move_at(&mut self, key: usize, meter: Meter) -> Result<(), usize>
-        requires { (p : List (List ℕ)) × (key_of self.old p ≡ Some key) }
+        requires there { (p : List (List ℕ)) × (key_of self.old p ≡ Some key) }
+        requires onward { meter ≢ Back }
         ensures keys { (q : List (List ℕ)) → key_of self.new q ≡ key_of self.old q }
         ensures marks { marks_of self.new ≡ marks_of self.old }
         ensures charged { OnOk result
@@ -35,11 +41,15 @@ impl Tree {
             IsNearestFull (full_of meter) (tree_of self.old) p level) }
         ensures unchanged { OnErr result
             ((q : List (List ℕ)) → tree_of self.new q ≡ tree_of self.old q) }
+        ensures as_before { OnErr result ((k : ℕ) → held_of self.new k ≡ held_of self.old k) }
+        ensures counted { meter ≡ Steps → (k : ℕ) → held_of self.new k ≡ held_of self.old k }
+        ensures deeper { OnOk result
+            (meter ≡ Levels → Deepens (held_of self.old) key (held_of self.new)) }
     {
         if let Some(level) = self.full_level(key, meter) {
             return Err(level);
         }
-        self.raise(key, meter);
+        raise(&mut self.nodes, key, meter);
         Ok(())
     }
 
@@ -51,6 +61,7 @@ impl Tree {
     pub fn charge_at(&mut self, place: Place) -> Result<(), usize>
         requires { (p : List (List ℕ)) × Names self.old place p }
         ensures keys { (q : List (List ℕ)) → key_of self.new q ≡ key_of self.old q }
+        ensures held { (k : ℕ) → held_of self.new k ≡ held_of self.old k }
         ensures marks { marks_of self.new ≡ marks_of self.old }
         ensures charged { OnOk result ((p : List (List ℕ)) → Names self.old place p →
             (blocked is_spent (tree_of self.old) p ≡ None) ×
@@ -82,6 +93,8 @@ impl Tree {
     pub fn nest_at(&mut self, place: Place) -> Result<(), usize>
         requires { (p : List (List ℕ)) × Names self.old place p }
         ensures keys { (q : List (List ℕ)) → key_of self.new q ≡ key_of self.old q }
+        ensures deeper { OnOk result (Deepens (held_of self.old) place.key (held_of self.new)) }
+        ensures held { OnErr result ((k : ℕ) → held_of self.new k ≡ held_of self.old k) }
         ensures marks { marks_of self.new ≡ marks_of self.old }
         ensures nested { OnOk result ((p : List (List ℕ)) → Names self.old place p →
             (blocked is_deep (tree_of self.old) p ≡ None) ×
@@ -94,16 +107,24 @@ impl Tree {
         self.move_at(place.key, Meter::Levels)
     }
 
-    /// Ends an evaluation in the interpreter, so that it and all above it are one level less deep.
-    /// This takes no memory.
+    /// Ends the evaluation that began last in the interpreter, so that it and all above it are one
+    /// level less deep. One that is gone, and in which none is in progress any more, is left no
+    /// longer. This takes no memory.
     pub fn unnest(&mut self, place: Place)
-        requires { (p : List (List ℕ)) × Names self.old place p }
+        requires holds { (p : List (List ℕ)) × (d : ℕ) × Holds self.old place p d }
+        requires innermost { IsInnermost (held_of self.old) place.key }
         ensures keys { (q : List (List ℕ)) → key_of self.new q ≡ key_of self.old q }
+        ensures shallower { Shallows (held_of self.old) place.key (held_of self.new) }
         ensures marks { marks_of self.new ≡ marks_of self.old }
-        ensures unnested { (p : List (List ℕ)) → Names self.old place p →
+        ensures unnested { (p : List (List ℕ)) (d : ℕ) → Holds self.old place p d →
             tree_of self.new ≡ effect p Unnested (tree_of self.old) }
     {
-        self.raise(place.key, Meter::Back);
+        let mut at = place.key;
+        'gone: while let Some(above) = self.above_gone(at) {
+            ease(&mut self.nodes, at);
+            at = above;
+        }
+        raise(&mut self.nodes, at, Meter::Back);
     }
 
     /// Counts a step in the interpreter at the path and in all above it. This takes no memory.
@@ -113,6 +134,7 @@ impl Tree {
     /// be passed, itself first. Then nothing is counted.
     pub fn charge(&mut self, path: &[Text]) -> Result<(), TreeError>
         ensures keys { (q : List (List ℕ)) → key_of self.new q ≡ key_of self.old q }
+        ensures held { (k : ℕ) → held_of self.new k ≡ held_of self.old k }
         ensures marks { marks_of self.new ≡ marks_of self.old }
         ensures there { OnOk result (IsSome (tree_of self.old path.now)) }
         ensures room { OnOk result (blocked is_spent (tree_of self.old) path.now ≡ None) }
@@ -138,6 +160,9 @@ impl Tree {
     /// be passed, itself first. Then nothing begins.
     pub fn nest(&mut self, path: &[Text]) -> Result<Place, TreeError>
         ensures keys { (q : List (List ℕ)) → key_of self.new q ≡ key_of self.old q }
+        ensures deeper { IfOk result
+            (λ place. Deepens (held_of self.old) place.key (held_of self.new)) }
+        ensures held { OnErr result ((k : ℕ) → held_of self.new k ≡ held_of self.old k) }
         ensures marks { marks_of self.new ≡ marks_of self.old }
         ensures place { IfOk result (λ place. Names self.new place path.now) }
         ensures room { OnOk result (blocked is_deep (tree_of self.old) path.now ≡ None) }
@@ -160,6 +185,7 @@ impl Tree {
     /// memory.
     pub fn set_run_limit(&mut self, limit: Option<u64>)
         ensures keys { (q : List (List ℕ)) → key_of self.new q ≡ key_of self.old q }
+        ensures held { (k : ℕ) → held_of self.new k ≡ held_of self.old k }
         ensures marks { marks_of self.new ≡ marks_of self.old }
         ensures limited { tree_of self.new ≡ effect [] (Limited limit) (tree_of self.old) }
     {
@@ -172,6 +198,7 @@ impl Tree {
     pub fn set_limit_at(&mut self, place: Place, limit: Option<u64>)
         requires { (p : List (List ℕ)) × Names self.old place p }
         ensures keys { (q : List (List ℕ)) → key_of self.new q ≡ key_of self.old q }
+        ensures held { (k : ℕ) → held_of self.new k ≡ held_of self.old k }
         ensures marks { marks_of self.new ≡ marks_of self.old }
         ensures limited { (p : List (List ℕ)) → Names self.old place p →
             tree_of self.new ≡ effect p (Limited limit) (tree_of self.old) }
@@ -191,6 +218,7 @@ impl Tree {
     pub fn set_depth_limit_at(&mut self, place: Place, limit: u64) -> Result<(), TreeError>
         requires { (p : List (List ℕ)) × Names self.old place p }
         ensures keys { (q : List (List ℕ)) → key_of self.new q ≡ key_of self.old q }
+        ensures held { (k : ℕ) → held_of self.new k ≡ held_of self.old k }
         ensures marks { marks_of self.new ≡ marks_of self.old }
         ensures may { OnOk result ((p : List (List ℕ)) → Names self.old place p →
             MayDeepen (tree_of self.old) p limit) }
@@ -230,6 +258,7 @@ impl Tree {
     ghost use Rattle.tcl_core.specs.Trees.{effect};
     ghost use Rattle.tcl_core.specs.Trees.What.{Limited, DepthLimited};
     ghost use Rattle.tcl_tree.specs.TreeOf.{tree_of, key_of, marks_of};
+    ghost use Rattle.tcl_tree.specs.Gone.{held_of};
     ghost use Rattle.tcl_tree.specs.Changes.{MayLimit, RefusesLimit, MayLimitDepth};
     ghost use Rattle.tcl_tree.specs.Changes.{RefusesDepthLimit};
     ghost use Rattle.tcl_tree.specs.Order.{FirstOfLimit, FirstOfDepthLimit};
@@ -269,6 +298,7 @@ impl Tree {
             (λ e. FirstOfLimit e (tree_of self.old) path.now down.now limit) }
         ensures unchanged { OnErr result (tree_of self.new ≡ tree_of self.old) }
         ensures keys { (q : List (List ℕ)) → key_of self.new q ≡ key_of self.old q }
+        ensures held { (k : ℕ) → held_of self.new k ≡ held_of self.old k }
         ensures marks { marks_of self.new ≡ marks_of self.old }
     {
         let asking = self.asker(path)?;
@@ -312,6 +342,7 @@ impl Tree {
             (λ e. FirstOfDepthLimit e (tree_of self.old) path.now down.now limit) }
         ensures unchanged { OnErr result (tree_of self.new ≡ tree_of self.old) }
         ensures keys { (q : List (List ℕ)) → key_of self.new q ≡ key_of self.old q }
+        ensures held { (k : ℕ) → held_of self.new k ≡ held_of self.old k }
         ensures marks { marks_of self.new ≡ marks_of self.old }
     {
         let asking = self.asker(path)?;

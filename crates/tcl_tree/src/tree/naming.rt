@@ -14,6 +14,7 @@ impl Tree {
     ghost use Rattle.tcl_tree.specs.Naming.{cleared, renamed, removed, hidden_under, exposed_under};
     ghost use Rattle.tcl_tree.specs.Naming.{named_so};
     ghost use Rattle.tcl_tree.specs.TreeOf.{tree_of, key_of, marks_of, Names};
+    ghost use Rattle.tcl_tree.specs.Gone.{held_of};
     ghost use Rattle.tcl_interpreter.specs.declared.command.Command.TheVariants as command;
 
     // Does this to the name of a command.
@@ -26,6 +27,7 @@ impl Tree {
             RefusesSo naming.entry e (tree_of self.old) p) }
         ensures unchanged { OnErr result (tree_of self.new ≡ tree_of self.old) }
         ensures keys { (q : List (List ℕ)) → key_of self.new q ≡ key_of self.old q }
+        ensures held { (k : ℕ) → held_of self.new k ≡ held_of self.old k }
         ensures marks { marks_of self.new ≡ marks_of self.old }
     {
         match self.nodes.get_mut(place.key) {
@@ -54,6 +56,7 @@ impl Tree {
             (λ own. named own name (command.Procedure procedure))) }
         ensures unchanged { OnErr result (tree_of self.new ≡ tree_of self.old) }
         ensures keys { (q : List (List ℕ)) → key_of self.new q ≡ key_of self.old q }
+        ensures held { (k : ℕ) → held_of self.new k ≡ held_of self.old k }
         ensures marks { marks_of self.new ≡ marks_of self.old }
     {
         self.name_at(place, Naming::Give(name, Command::Procedure(procedure)))
@@ -74,6 +77,7 @@ impl Tree {
             RefusesNaming e (tree_of self.old) p (λ own. named own name (command.Alias alias))) }
         ensures unchanged { OnErr result (tree_of self.new ≡ tree_of self.old) }
         ensures keys { (q : List (List ℕ)) → key_of self.new q ≡ key_of self.old q }
+        ensures held { (k : ℕ) → held_of self.new k ≡ held_of self.old k }
         ensures marks { marks_of self.new ≡ marks_of self.old }
     {
         self.name_at(place, Naming::Give(name, Command::Alias(alias)))
@@ -92,6 +96,7 @@ impl Tree {
             (λ own. cleared own name.now)) }
         ensures unchanged { OnErr result (tree_of self.new ≡ tree_of self.old) }
         ensures keys { (q : List (List ℕ)) → key_of self.new q ≡ key_of self.old q }
+        ensures held { (k : ℕ) → held_of self.new k ≡ held_of self.old k }
         ensures marks { marks_of self.new ≡ marks_of self.old }
     {
         self.name_at(place, Naming::Clear(name))
@@ -112,6 +117,7 @@ impl Tree {
             RefusesNaming e (tree_of self.old) p (λ own. renamed own name.now new_name)) }
         ensures unchanged { OnErr result (tree_of self.new ≡ tree_of self.old) }
         ensures keys { (q : List (List ℕ)) → key_of self.new q ≡ key_of self.old q }
+        ensures held { (k : ℕ) → held_of self.new k ≡ held_of self.old k }
         ensures marks { marks_of self.new ≡ marks_of self.old }
     {
         self.name_at(place, Naming::Rename(name, new_name))
@@ -130,6 +136,7 @@ impl Tree {
             (λ own. removed own name.now)) }
         ensures unchanged { OnErr result (tree_of self.new ≡ tree_of self.old) }
         ensures keys { (q : List (List ℕ)) → key_of self.new q ≡ key_of self.old q }
+        ensures held { (k : ℕ) → held_of self.new k ≡ held_of self.old k }
         ensures marks { marks_of self.new ≡ marks_of self.old }
     {
         self.name_at(place, Naming::Remove(name))
@@ -150,6 +157,7 @@ impl Tree {
             RefusesNaming e (tree_of self.old) p (λ own. hidden_under own name.now hidden)) }
         ensures unchanged { OnErr result (tree_of self.new ≡ tree_of self.old) }
         ensures keys { (q : List (List ℕ)) → key_of self.new q ≡ key_of self.old q }
+        ensures held { (k : ℕ) → held_of self.new k ≡ held_of self.old k }
         ensures marks { marks_of self.new ≡ marks_of self.old }
     {
         self.name_at(place, Naming::Hide(name, hidden))
@@ -171,6 +179,7 @@ impl Tree {
             RefusesNaming e (tree_of self.old) p (λ own. exposed_under own hidden.now name)) }
         ensures unchanged { OnErr result (tree_of self.new ≡ tree_of self.old) }
         ensures keys { (q : List (List ℕ)) → key_of self.new q ≡ key_of self.old q }
+        ensures held { (k : ℕ) → held_of self.new k ≡ held_of self.old k }
         ensures marks { marks_of self.new ≡ marks_of self.old }
     {
         self.name_at(place, Naming::Expose(hidden, name))

@@ -23,6 +23,8 @@ impl Tree {
     ghost use Rattle.tcl_tree.specs.Nodes.{view_of};
     ghost use Rattle.tcl_tree.specs.TreeOf.{tree_of, key_of, Names};
     ghost use Rattle.tcl_tree.specs.Reaching.{Leads};
+    ghost use Rattle.tcl_tree.specs.Gone.{held_of};
+    ghost use Rattle.tcl_tree.specs.Held.{StoodAt};
 
     /// The place of the root. This takes no memory.
     pub fn root(&self) -> Place
@@ -92,7 +94,8 @@ impl Tree {
         Ok(path)
     }
 
-    /// The last names of the interpreter's path, so many at most, in order.
+    /// The last names of the interpreter's path, so many at most, in order; of one that is gone, of
+    /// the path at which it stood.
     ///
     /// # Errors
     /// Want of memory.
@@ -102,8 +105,10 @@ impl Tree {
         place: Place,
         most: usize,
     ) -> Result<Vec<Text>, AllocError>
-        ensures { IfOk result (λ names. (p : List (List ℕ)) → Names self.now place p →
+        ensures named { IfOk result (λ names. (p : List (List ℕ)) → Names self.now place p →
             names.items ≡ falls most p) }
+        ensures stood { IfOk result (λ names. (p : List (List ℕ)) →
+            StoodAt (held_of self.now) place.key p → names.items ≡ falls most p) }
     {
         let mut names = Vec::new(alloc);
         let mut at = place.key;

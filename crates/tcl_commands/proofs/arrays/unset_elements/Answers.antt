@@ -10,6 +10,7 @@ use Rattle.tcl_run.proofs.Steady.{stands}
 use Rattle.tcl_tree.specs.Own.{Own}
 use Rattle.tcl_tree.specs.TreeOf.{tree_of}
 use Rattle.tcl_tree.proofs.CoreLemmas.{tree_there}
+use Rattle.tcl_run.proofs.Steady.{lent_level}
 use Rattle.tcl_commands.proofs.ArrayEnds.{changed_ends}
 use Rattle.tcl_commands.proofs.Chains.{held_of, chain_goes, chain_fails}
 use Rattle.tcl_commands.proofs.arrays.unset_elements.Goals as goal
@@ -37,3 +38,11 @@ returns-in-Err-clause-acts c =
     chain_fails c.args.tree.now (c.frames_of.follows.lender c.unset_elements.new.self) c.args.place c.in-Some.frames.now c.unset_elements.new.self held (λ chain. after_unset_elements chain c.args.name.now (option_copied c.args.pattern))
     c.frame_failure.result c.in-Err.ensures.unchanged
     (tells c.in-Err.error (after_unset_elements c.in-Some.frames.now c.args.name.now (option_copied c.args.pattern)) c.frame_failure.result c.in-Err.ensures.err c.frame_failure.ensures) (λ style. done (ok []))
+
+pub returns-in-Ok-clause-level : goal.returns-in-Ok-clause-level
+returns-in-Ok-clause-level c =
+    lent_level c.args.tree.now (c.frames_of.follows.lender c.unset_elements.new.self) c.args.place c.requires.0 c.unset_elements.new.self c.requires.1 (c.frames_of.follows.holds c.unset_elements.new.self (search rules) c.requires.0 c.requires.1)
+
+pub returns-in-Err-clause-level : goal.returns-in-Err-clause-level
+returns-in-Err-clause-level c =
+    lent_level c.args.tree.now (c.frames_of.follows.lender c.unset_elements.new.self) c.args.place c.requires.0 c.unset_elements.new.self c.requires.1 (c.frames_of.follows.holds c.unset_elements.new.self (search rules) c.requires.0 c.requires.1)

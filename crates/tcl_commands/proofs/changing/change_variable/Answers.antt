@@ -31,4 +31,4 @@ returns-clause-level c =
     let next = c.frames_of.follows.lender c.change_in.new.frames in
     let held : HasFrames c.args.tree.now next p c.change_in.new.frames = c.frames_of.follows.holds c.change_in.new.frames (search rules) p c.requires.1 in
     let n = stands (tree_of c.args.tree.now p) (tree_there c.args.tree.now p _ c.requires.1) in
-    changed_level c.args.tree.now next p (with_chain n.0.own c.change_in.new.frames) held.marks held.keys (held.tree n.0 n.1)
+    changed_level c.args.tree.now next p (with_chain n.0.own c.change_in.new.frames) held.marks held.keys held.held (held.tree n.0 n.1)

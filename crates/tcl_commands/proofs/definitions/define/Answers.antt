@@ -26,7 +26,7 @@ returns-in-Ok-clause-acts c =
 pub returns-in-Ok-clause-level : goal.returns-in-Ok-clause-level
 returns-in-Ok-clause-level c =
     renaming_level c.args.tree.now c.set_proc_at.new.self c.args.place (λ own. language.named own c.args.name.now (command.Procedure c.args.procedure)) (λ own. tree.named own c.in_ok-kept.kept (command.Procedure c.args.procedure))
-    c.requires c.in-Ok.ensures.set c.in-Ok.ensures.keys c.in-Ok.ensures.marks
+    c.requires c.in-Ok.ensures.set c.in-Ok.ensures.keys c.in-Ok.ensures.held c.in-Ok.ensures.marks
 
 pub returns-in-Err-clause-acts : goal.returns-in-Err-clause-acts
 returns-in-Err-clause-acts c =

@@ -23,7 +23,7 @@ returns-in-Ok-clause-acts c =
 pub returns-in-Ok-clause-level : goal.returns-in-Ok-clause-level
 returns-in-Ok-clause-level c =
     renaming_level c.args.tree.now c.remove_at.new.self c.args.place (λ own. language.removed own c.args.name.now) (λ own. tree.removed own c.in_ok-kept.kept)
-    c.requires c.in-Ok.ensures.removed c.in-Ok.ensures.keys c.in-Ok.ensures.marks
+    c.requires c.in-Ok.ensures.removed c.in-Ok.ensures.keys c.in-Ok.ensures.held c.in-Ok.ensures.marks
 
 pub returns-clause-acts : goal.returns-clause-acts
 returns-clause-acts c =

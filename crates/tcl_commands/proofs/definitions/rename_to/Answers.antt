@@ -36,7 +36,7 @@ returns-in-Ok-clause-acts c =
 pub returns-in-Ok-clause-level : goal.returns-in-Ok-clause-level
 returns-in-Ok-clause-level c =
     renaming_level c.args.tree.now c.rename_at.new.self c.args.place (λ own. language.renamed own c.args.old.now c.args.new.now) (λ own. tree.renamed own c.in_ok-name.name c.in_ok-new_name.new_name)
-    c.requires c.in-Ok.ensures.renamed c.in-Ok.ensures.keys c.in-Ok.ensures.marks
+    c.requires c.in-Ok.ensures.renamed c.in-Ok.ensures.keys c.in-Ok.ensures.held c.in-Ok.ensures.marks
 
 pub returns-clause-acts : goal.returns-clause-acts
 returns-clause-acts c =

@@ -2,7 +2,7 @@ use Rattle.std.proofs.Common.{rules, ◌≡◌, Some, None, ap, ◌∙◌}
 use Rattle.std.specs.Option.{option_map}
 use Rattle.std.proofs.lemmas.Option.{same_Some}
 use Rattle.tcl_core.specs.Trees.{Node}
-use Rattle.tcl_run.proofs.Steady.{stands}
+use Rattle.tcl_run.proofs.Steady.{lent_level, stands}
 use Rattle.tcl_tree.specs.Own.{Own}
 use Rattle.tcl_tree.specs.TreeOf.{tree_of}
 use Rattle.tcl_tree.proofs.CoreLemmas.{tree_there}
@@ -22,3 +22,8 @@ returns-clause-acts c =
     grow_acts c.args.tree.now (c.frames_of.follows.lender c.grow.new.frames) c.args.place c.in-Some.frames.now c.grow.new.frames (first_of c.args.growth) c.args.name.now (grown_by c.args.growth c.args.more.now) c.grow.result
     (λ p at. c.frames_of.follows.holds c.grow.new.frames (search rules) p at)
     (λ p n at there. same_Some _ _ (c.in-Some.ensures.value p at ∙ ap (option_map (λ (m : Node Own). m.own.chain)) there)) c.grow.ensures
+
+pub returns-clause-level : goal.returns-clause-level
+returns-clause-level c =
+    let p = c.requires.0 in
+    lent_level c.args.tree.now (c.frames_of.follows.lender c.grow.new.frames) c.args.place p c.grow.new.frames c.requires.1 (c.frames_of.follows.holds c.grow.new.frames (search rules) p c.requires.1)

@@ -8,6 +8,7 @@ use Rattle.tcl_run.proofs.Steady.{stands}
 use Rattle.tcl_tree.specs.Own.{Own}
 use Rattle.tcl_tree.specs.TreeOf.{tree_of}
 use Rattle.tcl_tree.proofs.CoreLemmas.{tree_there}
+use Rattle.tcl_run.proofs.Steady.{lent_level}
 use Rattle.tcl_commands.proofs.Chains.{held_of, chain_goes, chain_fails}
 use Rattle.tcl_commands.proofs.steps.link_variable.Goals as goal
 
@@ -34,3 +35,11 @@ returns-in-Err-clause-linked c =
     chain_fails c.args.tree.now (c.frames_of.follows.lender c.link.new.self) c.args.place c.in-Some.frames.now c.link.new.self held
     (λ chain. after_link chain c.args.level c.args.other.now c.args.local.now) c.frame_failure.result c.in-Err.ensures.unchanged
     (tells c.in-Err.error (after_link c.in-Some.frames.now c.args.level c.args.other.now c.args.local.now) c.frame_failure.result c.in-Err.ensures.err c.frame_failure.ensures)
+
+pub returns-in-Ok-clause-level : goal.returns-in-Ok-clause-level
+returns-in-Ok-clause-level c =
+    lent_level c.args.tree.now (c.frames_of.follows.lender c.link.new.self) c.args.place c.requires.0 c.link.new.self c.requires.1 (c.frames_of.follows.holds c.link.new.self (search rules) c.requires.0 c.requires.1)
+
+pub returns-in-Err-clause-level : goal.returns-in-Err-clause-level
+returns-in-Err-clause-level c =
+    lent_level c.args.tree.now (c.frames_of.follows.lender c.link.new.self) c.args.place c.requires.0 c.link.new.self c.requires.1 (c.frames_of.follows.holds c.link.new.self (search rules) c.requires.0 c.requires.1)

@@ -6,6 +6,7 @@ use Rattle.tcl_run.proofs.Steady.{stands}
 use Rattle.tcl_tree.specs.Own.{Own}
 use Rattle.tcl_tree.specs.TreeOf.{tree_of}
 use Rattle.tcl_tree.proofs.CoreLemmas.{tree_there}
+use Rattle.tcl_run.proofs.Steady.{lent_level}
 use Rattle.tcl_commands.proofs.Chains.{held_of, unset_goes, unset_ends}
 use Rattle.tcl_commands.proofs.steps.unset_variable.Goals as goal
 
@@ -37,3 +38,7 @@ returns-in-Err-clause-level c =
     (λ p at. c.frames_of.follows.holds c.unset.new.self (search rules) p at)
     (λ p n at there. same_Some _ _ (c.in-Some.ensures.value p at ∙ ap (option_map (λ (m : Node Own). m.own.chain)) there)) in
     held.level
+
+pub returns-in-Ok-clause-level : goal.returns-in-Ok-clause-level
+returns-in-Ok-clause-level c =
+    lent_level c.args.tree.now (c.frames_of.follows.lender c.unset.new.self) c.args.place c.requires.0 c.unset.new.self c.requires.1 (c.frames_of.follows.holds c.unset.new.self (search rules) c.requires.0 c.requires.1)

@@ -25,6 +25,7 @@ returns-in-Some c =
       parent = c.add_child.ensures.parent;
       name = c.add_child.ensures.name;
       level = c.add_child.ensures.level;
+      stands = c.add_child.ensures.gone;
       view = c.add_child.ensures.view;
       gets = c.add_child.ensures.gets;
       others = λ k a b. wrote.others k a ∙ u.others k b;

@@ -17,4 +17,4 @@ returns-in-Err-clause-refused g c =
 pub returns-in-Ok-clause-level : goal.returns-in-Ok-clause-level
 returns-in-Ok-clause-level g c =
     let made = c.in-Ok.ensures.charged c.requires.0 c.requires.1 in
-    charged_level c.args.tree.now c.charge_at.new.self c.requires.0 c.charge_at.ensures.marks c.charge_at.ensures.keys made.0 made.1
+    charged_level c.args.tree.now c.charge_at.new.self c.requires.0 c.charge_at.ensures.marks c.charge_at.ensures.keys c.charge_at.ensures.held made.0 made.1

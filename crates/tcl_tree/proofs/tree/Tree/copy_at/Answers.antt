@@ -11,7 +11,7 @@ pub subtable-requires : goal.subtable-requires
 subtable-requires c = (c.args.path.now, sym c.in-Some.ensures)
 
 pub invariant_of-result : goal.invariant_of-result
-invariant_of-result c = record { sound = c.in_ok-nodes.ensures.sound; guarded = c.in_ok-nodes.ensures.guarded }
+invariant_of-result c = record { sound = c.in_ok-nodes.ensures.sound; guarded = c.in_ok-nodes.ensures.guarded; ordered = c.in_ok-nodes.ensures.ordered }
 
 pub returns-clause-there : goal.returns-clause-there
 returns-clause-there c = tree_there c.args.self.now c.args.path.now _ (sym c.in-Some.ensures)

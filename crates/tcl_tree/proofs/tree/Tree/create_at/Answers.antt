@@ -1,4 +1,4 @@
-use Rattle.std.proofs.Common.{rules, arith, sym, ◌∙◌, refl, ap, ◌≡◌, ◌+◌, ◌<◌, ◌≤◌, ◌^◌, length, Bool, inl, inr, List, ℕ, None, false}
+use Rattle.std.proofs.Common.{rules, arith, sym, ◌∙◌, refl, ap, ◌≡◌, ◌+◌, ◌<◌, ◌≤◌, ◌^◌, length, Bool, inl, inr, List, [], ℕ, None, false}
 use Rattle.std.specs.Prelude.{is_some}
 use Rattle.std.specs.Str.{bytes_eq}
 use Rattle.std.specs.Map.{keys_of, lookup}
@@ -12,6 +12,9 @@ use Rattle.tcl_tree.proofs.HeapLemmas.{sound_kept, guarded_kept, tree_kept, foll
 use Rattle.tcl_tree.proofs.StepLemmas.{tree_some, leads_somewhere, none_of, some_of, tree_child, tree_no_child, on_err}
 use Rattle.tcl_tree.proofs.MakeLemmas.{length_keys, room_there, room_keeps, sound_created, guarded_created, keys_created, tree_created}
 use Rattle.tcl_tree.proofs.ChildLemmas.{made_is, either_parent}
+use Rattle.tcl_tree.specs.Held.{held_in}
+use Rattle.tcl_tree.proofs.DepthLemmas.{held_kept, ordered_kept}
+use Rattle.tcl_tree.proofs.PartingLemmas.{ordered_created, gains_created}
 use Rattle.tcl_tree.proofs.tree.Tree.create_at.Goals as goal
 
 many : (es : List (List ℕ × ℕ)) (n : ℕ) → n ≡ length es → 256 ≤ n → 256 ≤ length (keys_of es)
@@ -52,7 +55,7 @@ returns-then-len-ge-MOST_CHILDREN-clause-refused c = λ p at. (
 )
 
 pub invariant_of-self : goal.invariant_of-self
-invariant_of-self c = record { sound = sound_kept _ _ c.make_room.ensures.same _ c.args.self.now.sound; guarded = guarded_kept _ _ c.make_room.ensures.same c.args.self.now.guarded }
+invariant_of-self c = record { sound = sound_kept _ _ c.make_room.ensures.same _ c.args.self.now.sound; guarded = guarded_kept _ _ c.make_room.ensures.same c.args.self.now.guarded; ordered = ordered_kept _ _ c.make_room.ensures.same _ c.args.self.now.ordered }
 
 pub returns-in_err-make_room-clause-unchanged : goal.returns-in_err-make_room-clause-unchanged
 returns-in_err-make_room-clause-unchanged c =
@@ -84,6 +87,7 @@ invariant_of-self-2 c =
       guarded = guarded_created c.args.self.now.nodes c.make_room.new.nodes c.attach.new.nodes _ _ c.args.name.now _ _ c.in-Some.up.now c.in_ok-make_room.ensures.same c.attach.ensures c.in-Some.ensures c.in_ok-label.ensures.cases refl c.in_ok-own_name.ensures.cases c.new-2.ensures.empty level (none_of _ (sym c.contains_key-2.ensures ∙ c.if-contains_key-2.false)) fits c.args.self.now.sound c.args.self.now.guarded
           (λ up_safe. c.in_ok-state.ensures.safe ∙ c.is_child_safe-safe.ensures ∙ ap (either c.args.safe) up_safe ∙ either_parent c.args.safe)
           (few c.in-Some.up.now.children.entries c.len.result c.len.ensures.len c.if-len-ge-MOST_CHILDREN.false);
+      ordered = ordered_created c.args.self.now.nodes c.make_room.new.nodes c.attach.new.nodes _ _ c.args.name.now _ _ c.in-Some.up.now c.in_ok-make_room.ensures.same c.attach.ensures c.in-Some.ensures c.in_ok-label.ensures.cases refl c.in_ok-own_name.ensures.cases c.new-2.ensures.empty level (none_of _ (sym c.contains_key-2.ensures ∙ c.if-contains_key-2.false)) fits c.args.self.now.sound c.requires.0 c.requires.1 c.args.self.now.ordered refl (ap (λ (v : NodeView). v.depth) (c.in_ok-state.ensures.view []));
     }
 
 pub returns-clause-may : goal.returns-clause-may
@@ -112,3 +116,14 @@ returns-clause-keys c =
     let level : c.in-Some-checked_add.level ≡ c.in-Some.up.now.level + 1 = search rules in
     let fits : c.in-Some-checked_add.level < 2 ^ 64 = search rules in
     keys_created c.args.self.now.nodes c.make_room.new.nodes c.attach.new.nodes _ _ c.args.name.now _ _ c.in-Some.up.now c.in_ok-make_room.ensures.same c.attach.ensures c.in-Some.ensures c.in_ok-label.ensures.cases refl c.in_ok-own_name.ensures.cases c.new-2.ensures.empty level (none_of _ (sym c.contains_key-2.ensures ∙ c.if-contains_key-2.false)) fits c.args.self.now.sound
+
+pub returns-clause-gains : goal.returns-clause-gains
+returns-clause-gains c =
+    let level : c.in-Some-checked_add.level ≡ c.in-Some.up.now.level + 1 = search rules in
+    let fits : c.in-Some-checked_add.level < 2 ^ 64 = search rules in
+    gains_created c.args.self.now.nodes c.make_room.new.nodes c.attach.new.nodes _ _ c.args.name.now _ _ c.in-Some.up.now c.in_ok-make_room.ensures.same c.attach.ensures c.in-Some.ensures c.in_ok-label.ensures.cases refl c.in_ok-own_name.ensures.cases c.new-2.ensures.empty level (none_of _ (sym c.contains_key-2.ensures ∙ c.if-contains_key-2.false)) fits c.args.self.now.sound c.requires.0 c.requires.1 c.args.self.now.ordered refl (ap (λ (v : NodeView). v.depth) (c.in_ok-state.ensures.view []))
+
+pub returns-in_err-make_room-clause-held : goal.returns-in_err-make_room-clause-held
+returns-in_err-make_room-clause-held c =
+    let same : (k : ℕ) → held_in (get c.make_room.new.nodes) k ≡ held_in (get c.args.self.now.nodes) k = held_kept _ _ c.make_room.ensures.same in
+    on_err _ same

@@ -7,8 +7,8 @@ use Rattle.tcl_tree.proofs.tree.Tree.delete.Goals as goal
 pub returns-clause-there : goal.returns-clause-there
 returns-clause-there c = ok_map c.delete_at.result c.delete_at.ensures.there (λ h. h c.args.path.now (sym c.in-Some.ensures))
 
-pub returns-clause-idle : goal.returns-clause-idle
-returns-clause-idle c = ok_map c.delete_at.result c.delete_at.ensures.idle (λ h. h c.args.path.now (sym c.in-Some.ensures))
+pub returns-clause-parts : goal.returns-clause-parts
+returns-clause-parts c = ok_map c.delete_at.result c.delete_at.ensures.parts (λ h. h c.args.path.now (sym c.in-Some.ensures))
 
 pub returns-clause-dropped : goal.returns-clause-dropped
 returns-clause-dropped c = ok_map c.delete_at.result c.delete_at.ensures.dropped (λ h. h c.args.path.now (sym c.in-Some.ensures))

@@ -1,9 +1,7 @@
-use Rattle.std.proofs.Common.{sym, ◌∙◌, ap, arith}
-use Rattle.std.specs.Prelude.{is_some}
-use Rattle.std.proofs.lemmas.Option.{same_Some}
-use Rattle.tcl_tree.specs.Nodes.{NodeView, view_of}
-use Rattle.tcl_tree.proofs.StepLemmas.{leads_somewhere, tree_no_child, tree_some}
+use Rattle.std.proofs.Common.{sym}
+use Rattle.tcl_tree.proofs.StepLemmas.{leads_somewhere, tree_no_child}
 use Rattle.tcl_tree.proofs.MakeLemmas.{descend_leads}
+use Rattle.tcl_tree.proofs.CoreLemmas.{tree_there}
 use Rattle.tcl_tree.proofs.tree.Tree.delete_at.Goals as goal
 
 pub unreachable-requires : goal.unreachable-requires
@@ -12,33 +10,19 @@ unreachable-requires c = leads_somewhere _ _ c.args.self.now.sound _ _ c.require
 pub returns-in_default-get-clause-refused : goal.returns-in_default-get-clause-refused
 returns-in_default-get-clause-refused c = λ p at. tree_no_child _ _ _ _ c.args.name.now _ at (sym c.in-Some.ensures) (sym c.in_default-get.ensures.value)
 
-pub returns-in_default-get-2-clause-refused : goal.returns-in_default-get-2-clause-refused
-returns-in_default-get-2-clause-refused c = λ p at.
-    let lead = descend_leads _ _ c.args.self.now.sound _ _ c.args.name.now _ (sym c.in-Some.ensures) (sym c.in-Some-get.ensures.value) p at in
-    absurd (leads_somewhere _ _ c.args.self.now.sound _ _ lead (sym c.in_default-get-2.ensures))
-
-pub returns-then-node-gt0-clause-refused : goal.returns-then-node-gt0-clause-refused
-returns-then-node-gt0-clause-refused c = λ p at.
-    let lead = descend_leads _ _ c.args.self.now.sound _ _ c.args.name.now _ (sym c.in-Some.ensures) (sym c.in-Some-get.ensures.value) p at in
-    (view_of c.in-Some-get-2.node.now, tree_some _ _ _ _ _ lead (sym c.in-Some-get-2.ensures), c.if-node-gt0.true)
-
 pub fell-requires : goal.fell-requires
 fell-requires c = let p = c.requires.0 in let at = c.requires.1 in (p, c.args.name.now, descend_leads _ _ c.args.self.now.sound _ _ c.args.name.now _ (sym c.in-Some.ensures) (sym c.in-Some-get.ensures.value) p at)
-
-pub returns-clause-there : goal.returns-clause-there
-returns-clause-there c = λ p at.
-    let lead = descend_leads _ _ c.args.self.now.sound _ _ c.args.name.now _ (sym c.in-Some.ensures) (sym c.in-Some-get.ensures.value) p at in
-    ap is_some (tree_some _ _ _ _ _ lead (sym c.in-Some-get-2.ensures))
-
-pub returns-clause-idle : goal.returns-clause-idle
-returns-clause-idle c = λ p at v here.
-    let lead = descend_leads _ _ c.args.self.now.sound _ _ c.args.name.now _ (sym c.in-Some.ensures) (sym c.in-Some-get.ensures.value) p at in
-    let closed = c.if-node-gt0.false in
-    let same = ap (λ (u : NodeView). u.depth) (same_Some _ _ (sym here ∙ tree_some _ _ _ _ _ lead (sym c.in-Some-get-2.ensures))) in
-    omega arith
 
 pub returns-clause-dropped : goal.returns-clause-dropped
 returns-clause-dropped c = λ p at. c.fell.ensures.dropped p c.args.name.now (descend_leads _ _ c.args.self.now.sound _ _ c.args.name.now _ (sym c.in-Some.ensures) (sym c.in-Some-get.ensures.value) p at)
 
 pub returns-clause-keys : goal.returns-clause-keys
 returns-clause-keys c = λ p at. c.fell.ensures.keys p c.args.name.now (descend_leads _ _ c.args.self.now.sound _ _ c.args.name.now _ (sym c.in-Some.ensures) (sym c.in-Some-get.ensures.value) p at)
+
+pub returns-clause-there : goal.returns-clause-there
+returns-clause-there c = λ p at.
+    let lead = descend_leads _ _ c.args.self.now.sound _ _ c.args.name.now _ (sym c.in-Some.ensures) (sym c.in-Some-get.ensures.value) p at in
+    tree_there c.args.self.now _ _ lead
+
+pub returns-clause-parts : goal.returns-clause-parts
+returns-clause-parts c = λ p at. c.fell.ensures.parts p c.args.name.now (descend_leads _ _ c.args.self.now.sound _ _ c.args.name.now _ (sym c.in-Some.ensures) (sym c.in-Some-get.ensures.value) p at)

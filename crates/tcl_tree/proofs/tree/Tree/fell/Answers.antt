@@ -1,4 +1,4 @@
-use Rattle.std.proofs.Common.{◌≡◌, Some, sym, ◌∙◌, ap, [], ◌∷◌, ◌++◌, append_assoc, append-nil, inl, inr}
+use Rattle.std.proofs.Common.{◌≡◌, Some, refl, sym, ◌∙◌, ap, [], ◌∷◌, ◌++◌, append_assoc, append-nil, inl, inr}
 use Rattle.std.proofs.lemmas.Option.{same_Some}
 use Rattle.slab.specs.Slab.{get}
 use Rattle.tcl_tree.specs.Nodes.{follow}
@@ -7,6 +7,9 @@ use Rattle.tcl_tree.specs.TreeOf.{tree_of}
 use Rattle.tcl_interpreter.proofs.PathLemmas.{ends_cases}
 use Rattle.tcl_tree.proofs.MakeLemmas.{deleted_all, pruned_below, outside_apart}
 use Rattle.tcl_tree.proofs.ChildLemmas.{dropped_is}
+use Rattle.tcl_tree.specs.TreeOf.{key_of}
+use Rattle.tcl_tree.specs.Gone.{held_of}
+use Rattle.tcl_tree.proofs.PartingLemmas.{parting_first, parting_more, parting_last}
 use Rattle.tcl_tree.proofs.tree.Tree.fell.Goals as goal
 
 -- the last name of a path below a name
@@ -36,6 +39,25 @@ returns-then-leaf-top-clause-keys c = λ p n lead q k outside e.
     let now = i.keys q k outside e in
     c.prune-at.ensures.keys q k now (outside_apart _ _ c.prune.self.sound (p ++ n ∷ []) [] q k _ (ap (follow (get c.prune.self.nodes) c.prune.self.root) (append-nil (p ++ n ∷ [])) ∙ i.top ∙ ap Some (sym c.if-leaf-top.true)) outside now)
 
+pub prune-init : goal.prune-init
+prune-init c = record {
+  marks = refl;
+  at = λ p n lead. record {
+    top = lead;
+    rest = [];
+    at = ap (follow (get c.args.self.now.nodes) c.args.self.now.root) (append-nil (p ++ n ∷ [])) ∙ lead;
+    same = λ q outside. refl;
+    keys = λ q k outside e. e;
+    parting = parting_first (held_of c.args.self.now) (key_of c.args.self.now) (p ++ n ∷ []);
+  };
+}
+
+pub returns-then-leaf-top-clause-parts : goal.returns-then-leaf-top-clause-parts
+returns-then-leaf-top-clause-parts c = λ p n lead.
+    let i = c.prune.invariant.at p n lead in
+    let leads = i.top ∙ ap Some (sym c.if-leaf-top.true) in
+    parting_last c.prune.self (held_of c.args.self.now) (key_of c.args.self.now) (p ++ n ∷ []) _ leads c.deepest-leaf.ensures.leaf (held_of c.prune-at.new.self) c.prune-at.ensures.parted c.prune-at.ensures.others i.parting
+
 pub prune-preserved : goal.prune-preserved
 prune-preserved c = record {
   marks = c.prune-at.ensures.marks ∙ c.prune.invariant.marks;
@@ -55,6 +77,9 @@ prune-preserved c = record {
               rest = w.front;
               at = c.prune-at.ensures.parent (P ++ w.front) w.last leads;
               same = λ q outside. c.prune-at.ensures.tree (P ++ w.front) w.last leads q ∙ pruned_below (tree_of c.prune.self) (tree_of c.args.self.now) P w.front w.last i.same q outside;
+              parting =
+                  let down = ap (follow (get c.prune.self.nodes) c.prune.self.root) (sym (append_assoc P i.rest d.0)) ∙ d.1 in
+                  parting_more c.prune.self (held_of c.args.self.now) (key_of c.args.self.now) P _ (i.rest ++ d.0) down (held_of c.prune-at.new.self) (key_of c.prune-at.new.self) c.prune-at.ensures.keys c.prune-at.ensures.before c.prune-at.ensures.parted c.prune-at.ensures.others i.parting;
               keys = λ q k outside e.
                   let now = i.keys q k outside e in
                   c.prune-at.ensures.keys q k now (outside_apart _ _ c.prune.self.sound P (i.rest ++ d.0) q k _ (ap (follow (get c.prune.self.nodes) c.prune.self.root) (sym (append_assoc P i.rest d.0)) ∙ d.1) outside now);

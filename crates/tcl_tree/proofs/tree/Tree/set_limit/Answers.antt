@@ -2,10 +2,11 @@ use Rattle.std.proofs.Common.{◌<◌, ◌≤◌, ℕ, refl, sym, subst, inr, �
 use Rattle.std.proofs.lemmas.Result.{err_from_is_err_and}
 use Rattle.tcl_core.specs.Programs.{most_steps}
 use Rattle.tcl_tree.proofs.HeapLemmas.{tree-none}
-use Rattle.tcl_tree.proofs.StepLemmas.{tree_vacant, sound_write, guarded_write, follow_write}
+use Rattle.tcl_tree.proofs.StepLemmas.{tree_vacant, sound_write, guarded_write, follow_write, held_write}
 use Rattle.tcl_tree.proofs.CoreLemmas.{tree_there}
 use Rattle.tcl_tree.proofs.OwnLemmas.{limit_write, empty_path, no_empty_path}
 use Rattle.tcl_tree.proofs.FormLemmas.{untrusted_limit, first_limit}
+use Rattle.tcl_tree.proofs.DepthLemmas.{ordered_write}
 use Rattle.tcl_tree.proofs.tree.Tree.set_limit.Goals as goal
 
 pub returns-in_err-asking-clause-refused : goal.returns-in_err-asking-clause-refused
@@ -18,12 +19,13 @@ returns-in_default-clause-refused c = inr (tree-none _ _ _ (sym (c.in_default.en
 
 pub invariant_of-self : goal.invariant_of-self
 invariant_of-self c = record {
-  sound = sound_write c.args.self.now.nodes _ c.args.self.now.sound (c.args.path.now ++ c.args.down.now) _ (sym (c.in-Some.ensures c.args.path.now c.in_ok-asking.ensures.key)) _ _ (sym c.in-Some-get_mut.ensures.value) (record { parent = refl; name = refl; level = refl; children = refl; safe = refl });
-  guarded = guarded_write c.args.self.now.nodes _ c.args.self.now.sound (c.args.path.now ++ c.args.down.now) _ (sym (c.in-Some.ensures c.args.path.now c.in_ok-asking.ensures.key)) _ _ (sym c.in-Some-get_mut.ensures.value) (record { parent = refl; name = refl; level = refl; children = refl; safe = refl }) c.args.self.now.guarded;
+  sound = sound_write c.args.self.now.nodes _ c.args.self.now.sound (c.args.path.now ++ c.args.down.now) _ (sym (c.in-Some.ensures c.args.path.now c.in_ok-asking.ensures.key)) _ _ (sym c.in-Some-get_mut.ensures.value) (record { parent = refl; name = refl; level = refl; children = refl; safe = refl; gone = refl });
+  guarded = guarded_write c.args.self.now.nodes _ c.args.self.now.sound (c.args.path.now ++ c.args.down.now) _ (sym (c.in-Some.ensures c.args.path.now c.in_ok-asking.ensures.key)) _ _ (sym c.in-Some-get_mut.ensures.value) (record { parent = refl; name = refl; level = refl; children = refl; safe = refl; gone = refl }) c.args.self.now.guarded;
+  ordered = ordered_write c.args.self.now.nodes _ _ _ (sym c.in-Some-get_mut.ensures.value) (record { parent = refl; name = refl; level = refl; children = refl; safe = refl; gone = refl }) refl _ c.args.self.now.ordered;
 }
 
 pub returns-in-Some-get_mut-clause-keys : goal.returns-in-Some-get_mut-clause-keys
-returns-in-Some-get_mut-clause-keys c = follow_write c.args.self.now.nodes _ c.args.self.now.sound (c.args.path.now ++ c.args.down.now) _ (sym (c.in-Some.ensures c.args.path.now c.in_ok-asking.ensures.key)) _ _ (sym c.in-Some-get_mut.ensures.value) (record { parent = refl; name = refl; level = refl; children = refl; safe = refl })
+returns-in-Some-get_mut-clause-keys c = follow_write c.args.self.now.nodes _ c.args.self.now.sound (c.args.path.now ++ c.args.down.now) _ (sym (c.in-Some.ensures c.args.path.now c.in_ok-asking.ensures.key)) _ _ (sym c.in-Some-get_mut.ensures.value) (record { parent = refl; name = refl; level = refl; children = refl; safe = refl; gone = refl })
 
 pub returns-in-None-clause-refused : goal.returns-in-None-clause-refused
 returns-in-None-clause-refused c = inr (tree_vacant _ _ (c.args.path.now ++ c.args.down.now) _ (sym (c.in-Some.ensures c.args.path.now c.in_ok-asking.ensures.key)) (sym c.in-None.ensures.value))
@@ -48,7 +50,7 @@ returns-in-Some-get_mut-clause-may c = record {
 }
 
 pub returns-in-Some-get_mut-clause-limited : goal.returns-in-Some-get_mut-clause-limited
-returns-in-Some-get_mut-clause-limited c = limit_write c.args.self.now.nodes _ c.args.self.now.sound (c.args.path.now ++ c.args.down.now) _ (sym (c.in-Some.ensures c.args.path.now c.in_ok-asking.ensures.key)) _ _ (sym c.in-Some-get_mut.ensures.value) (record { parent = refl; name = refl; level = refl; children = refl; safe = refl }) c.args.limit refl
+returns-in-Some-get_mut-clause-limited c = limit_write c.args.self.now.nodes _ c.args.self.now.sound (c.args.path.now ++ c.args.down.now) _ (sym (c.in-Some.ensures c.args.path.now c.in_ok-asking.ensures.key)) _ _ (sym c.in-Some-get_mut.ensures.value) (record { parent = refl; name = refl; level = refl; children = refl; safe = refl; gone = refl }) c.args.limit refl
 
 pub returns-in_err-asking-clause-order : goal.returns-in_err-asking-clause-order
 returns-in_err-asking-clause-order c =
@@ -79,3 +81,6 @@ returns-in-None-clause-order c = inr (
   no_empty_path c.args.down.now _ c.is_empty.ensures c.if-is_empty.false,
   tree_vacant _ _ (c.args.path.now ++ c.args.down.now) _ (sym (c.in-Some.ensures c.args.path.now c.in_ok-asking.ensures.key)) (sym c.in-None.ensures.value),
 )
+
+pub returns-in-Some-get_mut-clause-held : goal.returns-in-Some-get_mut-clause-held
+returns-in-Some-get_mut-clause-held c = held_write c.args.self.now.nodes _ _ _ (sym c.in-Some-get_mut.ensures.value) (record { parent = refl; name = refl; level = refl; children = refl; safe = refl; gone = refl }) refl

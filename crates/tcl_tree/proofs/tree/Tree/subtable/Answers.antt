@@ -34,7 +34,7 @@ walk-smaller-in_ok-push-3 c =
     at_some c.in_ok-next.field-0 (λ (p : ℕ × ℕ). Adds h c.walk.nodes c.copy_child.new.nodes c.in-Some-pop.key c.in-Some-pop.twin p.0 p.1) c.in-Some-2.next c.in-Some-2.is c.in_ok-next.ensures.some in
     subst (λ (xs : Pairs). left_of h (get c.copy_child.new.nodes) xs < left_of h (get c.walk.nodes) c.walk.open.items) (sym now)
     (subst (λ (xs : Pairs). left_of h (get c.copy_child.new.nodes) ((c.pop.new.self.items ++ (c.in-Some-pop.key, c.in-Some-pop.twin) ∷ []) ++ c.in-Some-2.next ∷ []) < left_of h (get c.walk.nodes) xs) (sym was)
-    (walk_less h c.args.self.now.root c.args.self.now.sound c.args.self.now.guarded c.walk.nodes c.copy_child.new.nodes c.args.top c.in_ok-root.root c.in-Some-pop.key c.in-Some-pop.twin c.in-Some-2.next.0 c.in-Some-2.next.1 c.pop.new.self.items w a))
+    (walk_less h c.args.self.now.root c.args.self.now.sound c.args.self.now.guarded c.args.self.now.ordered c.walk.nodes c.copy_child.new.nodes c.args.top c.in_ok-root.root c.in-Some-pop.key c.in-Some-pop.twin c.in-Some-2.next.0 c.in-Some-2.next.1 c.pop.new.self.items w a))
 
 pub walk-preserved-in_ok-push-3 : goal.walk-preserved-in_ok-push-3
 walk-preserved-in_ok-push-3 c =
@@ -44,7 +44,7 @@ walk-preserved-in_ok-push-3 c =
     let a : Adds h c.walk.nodes c.copy_child.new.nodes c.in-Some-pop.key c.in-Some-pop.twin c.in-Some-2.next.0 c.in-Some-2.next.1 =
     at_some c.in_ok-next.field-0 (λ (p : ℕ × ℕ). Adds h c.walk.nodes c.copy_child.new.nodes c.in-Some-pop.key c.in-Some-pop.twin p.0 p.1) c.in-Some-2.next c.in-Some-2.is c.in_ok-next.ensures.some in
     subst (λ (xs : Pairs). IsWalk h (get c.copy_child.new.nodes) c.args.top c.in_ok-root.root xs) (sym now)
-    (walk_more h c.args.self.now.root c.args.self.now.sound c.args.self.now.guarded c.walk.nodes c.copy_child.new.nodes c.args.top c.in_ok-root.root c.in-Some-pop.key c.in-Some-pop.twin c.in-Some-2.next.0 c.in-Some-2.next.1 c.pop.new.self.items w a)
+    (walk_more h c.args.self.now.root c.args.self.now.sound c.args.self.now.guarded c.args.self.now.ordered c.walk.nodes c.copy_child.new.nodes c.args.top c.in_ok-root.root c.in-Some-pop.key c.in-Some-pop.twin c.in-Some-2.next.0 c.in-Some-2.next.1 c.pop.new.self.items w a)
 
 pub walk-smaller : goal.walk-smaller
 walk-smaller c =

@@ -5,6 +5,7 @@ use Rattle.tcl_tree.specs.Nodes.{new_view}
 use Rattle.tcl_interpreter.specs.Paths.{Path}
 use Rattle.tcl_tree.specs.TreeOf.{alone}
 use Rattle.tcl_tree.proofs.StepLemmas.{sound-single, guarded-single, tree-single, vacant_slots}
+use Rattle.tcl_tree.proofs.PartingLemmas.{ordered_single}
 use Rattle.tcl_tree.proofs.tree.Tree.with_integers.Goals as goal
 
 pub invariant_of-result : goal.invariant_of-result
@@ -13,6 +14,7 @@ invariant_of-result c =
     record {
       sound = sound-single _ _ _ u.changed refl (omega arith) c.new-3.ensures.empty (λ k other. u.others k other ∙ vacant_slots c.reserve.new.self (ap (λ s. s.slots) c.in_ok-reserve.ensures.rest_kept ∙ c.new-nodes.ensures.empty) k);
       guarded = guarded-single _ _ _ u.changed refl (omega arith) c.new-3.ensures.empty (λ k other. u.others k other ∙ vacant_slots c.reserve.new.self (ap (λ s. s.slots) c.in_ok-reserve.ensures.rest_kept ∙ c.new-nodes.ensures.empty) k);
+      ordered = ordered_single _ _ _ u.changed refl (omega arith) c.new-3.ensures.empty (λ k other. u.others k other ∙ vacant_slots c.reserve.new.self (ap (λ s. s.slots) c.in_ok-reserve.ensures.rest_kept ∙ c.new-nodes.ensures.empty) k) refl;
     }
 
 pub returns-clause-tree : goal.returns-clause-tree
