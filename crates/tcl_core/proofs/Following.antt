@@ -320,7 +320,6 @@ module _ {O I S : Type 0} (step : Tree O → S → Wait → Event O → S → Ty
             (next T t (In None i) (f.events ++ tail) y) (first T U t (prog.entry i) (Exit n) f.events tail y (f.runs (later tail y))) (next U t (Done None (Exit n)) last y)
             (exit_answer (ahead U last y) p (Some c) n (ahead U [] y) e (is_exit_self n) (next U p (Back c.0 (Replied (Exit n))) [] y));
       }
-
   follows calls (unfound {T = T} {p = p} {s = s} {k = k} t i e here j n) =
       let g = follows calls n in
       record {

@@ -292,7 +292,6 @@ module _ {O I S : Type 0} (step : Tree O → S → Wait → Event O → S → Ty
             (visited_leads prog T U None t i y f.events n.told (λ u o v z. Stays (Runs prog) u p s k o v z) f.whole
             (λ ms g su l v z q. n.leads ms g su l v z (stays_on prog (handing U n.told ms g l) p s k y v z calm q)));
       }
-
   goes calls (unfound {T} {p = p} {s = s} {k = k} t i e here s1 b) =
       let n = goes calls b in
       record { told = event [] (Unfound t i (prog.lost t)) ∷ n.told; last = n.last; calls = n.calls; chain = λ cs. more s1 (n.chain cs); leads = unfound_leads prog T p s k t i n.told here n.leads }

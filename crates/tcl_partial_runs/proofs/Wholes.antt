@@ -203,7 +203,6 @@ module _ {O I S : Type 0} (step : Tree O → S → Wait → Event O → S → Ty
             (next T t (In None i) (f.events ++ tail) ms g l) (first T U t (prog.entry i) (Exit n) f.events tail ms g l (suits_next _ _ _ su) f.runs) (next U t (Done None (Exit n)) last ms g l)
             (exit_answer (ahead U last ms g l) p (Some c) n (ahead U [] ms g l) e (is_exit_self n) (next U p (Back c.0 (Replied (Exit n))) [] ms g l));
       }
-
   follows calls (unfound {T = T} {p = p} {s = s} {k = k} t i e here s1 b) =
       let n = follows calls b in
       record {

@@ -13,8 +13,7 @@ ghost use Rattle.tcl_tree.specs.declared.tree.Place as table_place;
 pub fn nothing_left()
     ensures { (t : table.Tree) → depth_of (tree_of t []) ≡ 0 → (k : ℕ) →
         gone_at (held_of t k) ≡ false }
-{
-}
+{}
 
 /// In whom an evaluation is in progress when it is deleted, or one above it, is gone, and the
 /// highest that is gone is the one that was deleted.
@@ -24,5 +23,4 @@ pub fn deleted_are_gone()
         Parts (held_of t) (key_of t) (p ++ n ∷ []) (held_of u) →
         Names t place ((p ++ n ∷ []) ++ r) → 1 ≤ depth_in t place →
         IsGone u place ((p ++ n ∷ []) ++ r) (length r) }
-{
-}
+{}
