@@ -6,7 +6,7 @@ use Rattle.tcl_core.specs.Paths.{Path, falls}
 use Rattle.tcl_tree.specs.Nodes.{Heap, IsSound, child_in, follow, level_in}
 use Rattle.tcl_tree.specs.TreeOf.{key_of}
 use Rattle.tcl_tree.specs.declared.tree.Tree.{Tree as Table}
-use Rattle.tcl_tree.proofs.FallLemmas.{falls_all}
+use Rattle.tcl_interpreter.proofs.LastNames.{falls_all}
 
 -- an interpreter's level is the length of its path
 level_is : (h : Heap) (root : ℕ) → IsSound h root → (p : Path) (k j : ℕ)
