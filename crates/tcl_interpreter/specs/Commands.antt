@@ -1,6 +1,6 @@
 -- What procedures and aliases are.
-use Rattle.std.specs.Prelude.{ℕ, ◌-◌, List, length, drop}
-use Rattle.tcl_core.specs.Paths.{Text, together}
+use Rattle.std.specs.Prelude.{ℕ, ◌-◌, List, length, drop, nat_le}
+use Rattle.tcl_core.specs.Paths.{Text, falls, together, unless}
 use Rattle.tcl_interpreter.specs.declared.parameter.Parameter.{Parameter}
 
 -- a procedure: its parameters in order, and the text of its body
@@ -22,4 +22,18 @@ way_between from to words = record {
   up = length from - together from to;
   down = drop (together from to) to;
   words = words;
+}
+
+-- How many names the way down from the interpreter so many levels above the one at a path has in
+-- common with the way from there to it: none where that is above the tree.
+abbrev pub detour : List Text → ℕ → List Text → ℕ
+detour at up down = unless (nat_le up (length at)) (together (falls up at) down)
+
+-- An alias as the interpreter at a path has it: its way doesn't go up and come down again by the
+-- same names.
+abbrev pub straight : List Text → AliasView → AliasView
+straight at a = record {
+  up = a.up - detour at a.up a.down;
+  down = drop (detour at a.up a.down) a.down;
+  words = a.words;
 }

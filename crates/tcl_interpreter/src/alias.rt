@@ -1,6 +1,7 @@
 //! Aliases.
 ghost use Rattle.std.specs.Prelude.{◌≡◌, ◌≤◌, ◌-◌, ◌++◌, List, ℕ, Some, IfOk, length, drop};
-ghost use Rattle.tcl_core.specs.Paths.{rise, together};
+ghost use Rattle.tcl_core.specs.Paths.{falls, rise, together};
+ghost use Rattle.tcl_interpreter.specs.Commands.{straight};
 
 use std::alloc::{AllocError, Global};
 use std::marker::Model;
@@ -52,6 +53,14 @@ pub fn in_common(these: &[Text], those: &[Text]) -> usize
     count
 }
 
+/// The last so many names of a path.
+fn last_names(path: &[Text], count: usize) -> &[Text]
+    requires { count ≤ length path.now }
+    ensures { result.now ≡ falls count path.now }
+{
+    &path[path.len() - count..]
+}
+
 impl Alias {
     /// An alias of the interpreter that some names lead to, whose target is the one that others
     /// lead to from the same start. The leading names that the two have in common are left out of
@@ -97,6 +106,28 @@ impl Alias {
     {
         let shared = Rc::new(alloc, Target { up, down, words })?;
         Ok(Alias { shared })
+    }
+
+    /// The same alias as the interpreter at a path has it: with the shortest way to its target,
+    /// which doesn't go up and come down again by the same names.
+    ///
+    /// # Errors
+    /// Want of memory.
+    pub fn straightened(&self, alloc: Global, at: &[Text]) -> Result<Alias, AllocError>
+        ensures made { IfOk result (λ made. made ≡ straight at.now self.now) }
+        ensures leads { IfOk result (λ made. (b : List (List ℕ)) → rise self.now.up at.now
+            ≡ Some b → (c : List (List ℕ)) × (rise made.up at.now ≡ Some c) × (c ++ made.down
+            ≡ b ++ self.now.down)) }
+    {
+        let up = self.up();
+        if up > at.len() {
+            return self.clone();
+        }
+        let down = self.down();
+        let common = in_common(last_names(at, up), down);
+        let rest = Vec::from_clones(alloc, &down[common..])?;
+        let words = Vec::from_clones(alloc, self.words())?;
+        Alias::new(alloc, up - common, rest, words)
     }
 
     /// How many levels up its way to the target goes first.

@@ -9,4 +9,3 @@ pub mod Keeping
 pub mod Proceeding
 pub mod Quiet
 pub mod Fitting
-pub mod Entering

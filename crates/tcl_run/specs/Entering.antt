@@ -1,5 +1,5 @@
 -- What an interpreter is asked for, in the words of the core.
-use Rattle.std.specs.Prelude.{ℕ, ◌-◌, drop, length, nat_le}
+use Rattle.std.specs.Prelude.{◌-◌, drop}
 use Rattle.tcl_core.specs.Entries as core
 use Rattle.tcl_core.specs.Entries.Entry.{Eval, CallWords, InvokeHidden, SetAlias, ClearAlias, Hide}
 use Rattle.tcl_core.specs.Entries.Entry.{Expose, SetCountLimit, SetDepthLimit, Create, Delete, Ask}
@@ -7,7 +7,8 @@ use Rattle.tcl_core.specs.Entries.Entry.{AskHost}
 use Rattle.tcl_core.specs.Entries.Request.{Open, ReadLine, ReadAll, Write, Flush, Close, AtEnd}
 use Rattle.tcl_core.specs.Entries.Question.{Exists, IsSafe, Aliases, AliasOf, Hidden, Slaves}
 use Rattle.tcl_core.specs.Entries.Question.{CountLimitOf, DepthLimitOf}
-use Rattle.tcl_core.specs.Paths.{Text, Path, falls, together, unless}
+use Rattle.tcl_core.specs.Paths.{Text, Path}
+use Rattle.tcl_interpreter.specs.Commands.{detour}
 use Rattle.tcl_host.specs.declared.open_mode.OpenMode.{OpenMode}
 use Rattle.tcl_host.specs.declared.open_mode.OpenMode.TheVariants as mode
 use Rattle.tcl_host.specs.declared.request.Request.{Request}
@@ -71,11 +72,6 @@ IsOwn (entry.Own own) = Unit {0}
 IsOwn e = Prim.⊥
 
 -- ## What is handed in from outside of the tree
-
--- How many names the way down from the interpreter so many levels above that at t has in common
--- with the way from there to t: none where that is above the tree.
-abbrev pub detour : Path → ℕ → Path → ℕ
-detour t up down = unless (nat_le up (length t)) (together (falls up t) down)
 
 -- An entry that is handed in for the interpreter at t, as it enters there. An alias that it sets
 -- has no way that goes up and comes down again by the same names.

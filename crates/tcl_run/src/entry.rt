@@ -1,12 +1,10 @@
 //! What an interpreter is asked for by another one, or from outside of the tree.
-ghost use Rattle.std.specs.Prelude.{◌≡◌, ◌≤◌, ◌-◌, ◌++◌, IfOk, drop, length};
-ghost use Rattle.tcl_core.specs.Paths.{falls};
-ghost use Rattle.tcl_run.specs.Entering.{detour};
+ghost use Rattle.std.specs.Prelude.{◌≡◌, ◌++◌, IfOk};
 
 use std::alloc::{AllocError, Global};
 use tcl_host::request::Request;
 use tcl_text::text::Text;
-use tcl_tree::alias::{Alias, in_common};
+use tcl_tree::alias::Alias;
 use tcl_value::value::Value;
 
 /// What can be asked about an interpreter.
@@ -171,34 +169,6 @@ fn copy_request(request: &Request) -> Result<Request, AllocError>
     }
 }
 
-/// The last so many names of a path.
-fn last_names(path: &[Text], count: usize) -> &[Text]
-    requires { count ≤ length path.now }
-    ensures { result.now ≡ falls count path.now }
-{
-    &path[path.len() - count..]
-}
-
-/// The same alias, set from outside of the tree in the interpreter at a path, with no way that goes
-/// up and comes down again by the same names.
-fn without_detour(alloc: Global, alias: &Alias, target: &[Text]) -> Result<Alias, AllocError>
-    ensures { IfOk result (λ made. made ≡ record {
-      up = alias.now.up - detour target.now alias.now.up alias.now.down;
-      down = drop (detour target.now alias.now.up alias.now.down) alias.now.down;
-      words = alias.now.words;
-    }) }
-{
-    let up = alias.up();
-    let down = alias.down();
-    if up > target.len() {
-        return alias.clone();
-    }
-    let common = in_common(last_names(target, up), down);
-    let kept = Vec::from_clones(alloc, &down[common..])?;
-    let words = Vec::from_clones(alloc, alias.words())?;
-    Alias::new(alloc, up - common, kept, words)
-}
-
 impl Entry {
     ghost use Rattle.tcl_core.specs.Entries.Entry.{CallWords};
     ghost use Rattle.tcl_core.specs.Paths.{Path};
@@ -216,7 +186,7 @@ impl Entry {
     {
         match self {
             Entry::Own(OwnEntry::SetAlias { name, alias }) => {
-                let alias = without_detour(alloc, &alias, target)?;
+                let alias = alias.straightened(alloc, target)?;
                 Ok(Entry::Own(OwnEntry::SetAlias { name, alias }))
             }
             other => Ok(other),

@@ -1,10 +1,9 @@
--- The last names of a path.
+-- The way up from an interpreter, name by name.
 use Rattle.std.proofs.Common.{◌≡◌, ℕ, zero, suc, ◌+◌, ◌-◌, ◌<◌, ◌≤◌, Bool, true, false, List, [], ◌∷◌, ◌++◌, length, reverse, drop, refl, sym, ◌∙◌, ap, subst, length-append, Option, Some, None, arith}
 use Rattle.std.specs.Prelude.{is_some, nat_le}
 use Rattle.std.specs.Option.{option_map}
 use Rattle.std.proofs.lemmas.Bool.Decides.{nat_tests}
 use Rattle.std.proofs.lemmas.List.{reverse-append}
-use Rattle.tcl_core.specs.Paths.{falls, shorter}
 use Rattle.tcl_interpreter.specs.Paths.{Text, Path, ancestor}
 use Rattle.tcl_interpreter.specs.declared.node.Node.{Node}
 use Rattle.tcl_interpreter.proofs.PathLemmas.{ancestor_front, ancestor_length}
@@ -14,36 +13,6 @@ use Rattle.tcl_tree.specs.Held.StoodAt.{top, below}
 use Rattle.tcl_tree.proofs.GoneLemmas.{node_above}
 use Rattle.tcl_tree.proofs.HeldLemmas.{held-at, held-none, no_above}
 use Rattle.tcl_tree.proofs.WayLemmas.{stood_last}
-
--- a path is what is so many levels above it, and its last names
-all_of : (n : ℕ) (x : Text) (xs : Path) → length xs < n → falls n (x ∷ xs) ≡ x ∷ xs
-all_of n x xs h = ap (λ (b : Bool). shorter b (falls n xs) (x ∷ xs)) (by (nat_le n (length xs)) refl)
-  where
-    by : (b : Bool) → nat_le n (length xs) ≡ b → b ≡ false
-    by true e = absurd (grind (arith, nat_tests))
-    by false e = refl
-
-some_of : (n : ℕ) (x : Text) (xs : Path) → n ≤ length xs → falls n (x ∷ xs) ≡ falls n xs
-some_of n x xs h = ap (λ (b : Bool). shorter b (falls n xs) (x ∷ xs)) (by (nat_le n (length xs)) refl)
-  where
-    by : (b : Bool) → nat_le n (length xs) ≡ b → b ≡ true
-    by true e = refl
-    by false e = absurd (grind (arith, nat_tests))
-
--- the last names are what stands behind the others
-pub falls_behind : (n : ℕ) (a b : Path) → length b ≡ n → falls n (a ++ b) ≡ b
-falls_behind n [] [] h = refl
-falls_behind n [] (y ∷ ys) h = all_of n y ys (omega arith)
-falls_behind n (x ∷ a) b h = some_of n x (a ++ b) (longer a b n h) ∙ falls_behind n a b h
-  where
-    longer : (a b : Path) (n : ℕ) → length b ≡ n → n ≤ length (a ++ b)
-    longer [] b n h = omega arith
-    longer (x ∷ a) b n h = let k = longer a b n h in omega arith
-
--- no more than there are
-pub falls_all : (n : ℕ) (p : Path) → length p ≤ n → falls n p ≡ p
-falls_all n [] h = refl
-falls_all n (x ∷ xs) h = all_of n x xs (omega arith)
 
 append_one : (a : Path) (x : Text) (b : Path) → (a ++ x ∷ []) ++ b ≡ a ++ x ∷ b
 append_one [] x b = refl
@@ -61,15 +30,6 @@ nothing_above p n e = ap (λ m. Rattle.std.proofs.Common.take m p) (by (length p
   where
     by : (m n : ℕ) → n ≡ m → m - n ≡ 0
     by m n e = omega arith
-
--- there are no more last names than were wanted
-pub falls_length : (n : ℕ) (p : Path) → length (falls n p) ≤ n
-falls_length n [] = omega arith
-falls_length n (x ∷ xs) = by (nat_le n (length xs)) refl (falls_length n xs)
-  where
-    by : (b : Bool) → nat_le n (length xs) ≡ b → length (falls n xs) ≤ n → length (shorter b (falls n xs) (x ∷ xs)) ≤ n
-    by true e h = h
-    by false e h = grind (arith, nat_tests)
 
 -- ## The way up from one that may be gone
 

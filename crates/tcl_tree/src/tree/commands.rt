@@ -13,7 +13,7 @@ use tcl_text::text::Text;
 use tcl_value::value::Value;
 
 impl Tree {
-    ghost use Rattle.tcl_interpreter.specs.Commands.{way_between};
+    ghost use Rattle.tcl_interpreter.specs.Commands.{straight, way_between};
     ghost use Rattle.tcl_interpreter.specs.Own.{command_in, hidden_in};
     ghost use Rattle.tcl_interpreter.specs.Paths.{is_above};
     ghost use Rattle.tcl_tree.specs.Naming.{Becomes, RefusesThere, RefusesAt, Renames};
@@ -65,17 +65,24 @@ impl Tree {
     }
 
     /// Makes a name of the interpreter at the path an alias, which is looked up at each call and
-    /// not now.
+    /// not now. Its way is kept as the shortest one: where it goes up and comes down again by the
+    /// same names, these are left out.
     ///
     /// # Errors
     /// Refusals, in this order: 301; 238 of the name; 302 where it is a child. Want of memory.
-    pub fn set_alias(&mut self, path: &[Text], name: Text, alias: Alias) -> Result<(), TreeError>
+    pub fn set_alias(
+        &mut self,
+        alloc: Global,
+        path: &[Text],
+        name: Text,
+        alias: &Alias,
+    ) -> Result<(), TreeError>
         ensures there { OnOk result (IsSome (tree_of self.old path.now)) }
         ensures set { OnOk result (Becomes (tree_of self.old) (tree_of self.new) path.now
-            (λ own. named own name (command.Alias alias))) }
+            (λ own. named own name (command.Alias (straight path.now alias.now)))) }
         ensures refused { IfErr result
             (λ e. RefusesAt e (tree_of self.old) path.now
-            (λ own. named own name (command.Alias alias))) }
+            (λ own. named own name (command.Alias (straight path.now alias.now)))) }
         ensures unchanged { OnErr result (tree_of self.new ≡ tree_of self.old) }
         ensures keys { (q : List (List ℕ)) → key_of self.new q ≡ key_of self.old q }
         ensures held { (k : ℕ) → held_of self.new k ≡ held_of self.old k }
@@ -84,7 +91,8 @@ impl Tree {
         let Some(place) = self.place(path) else {
             return Err(TreeError::NoInterpreter);
         };
-        self.set_alias_at(place, name, alias)
+        let way = alias.straightened(alloc, path)?;
+        self.set_alias_at(place, name, way)
     }
 
     /// Makes a name of the interpreter at one path an alias whose target is the interpreter at

@@ -3,7 +3,7 @@ use Rattle.std.specs.Prelude.{nat_lt}
 use Rattle.tcl_core.specs.Paths.{Path, falls, together}
 use Rattle.tcl_core.specs.Runs.{lessened}
 use Rattle.tcl_flow.specs.Stopping.{kind_of}
-use Rattle.tcl_tree.proofs.FallLemmas.{falls_length}
+use Rattle.tcl_interpreter.proofs.LastNames.{falls_length}
 use Rattle.tcl_run.proofs.Steady.{holds_stood}
 use Rattle.tcl_calls.proofs.Stops.{told_above}
 use Rattle.tcl_calls.proofs.carrying.stop_for_caller.Goals as goal

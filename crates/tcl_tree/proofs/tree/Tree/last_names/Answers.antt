@@ -6,7 +6,8 @@ use Rattle.tcl_tree.specs.Nodes.{follow}
 use Rattle.tcl_interpreter.specs.Paths.{Path, ancestor}
 use Rattle.tcl_interpreter.proofs.PathLemmas.{ancestor_itself}
 use Rattle.tcl_tree.proofs.StepLemmas.{climb_up, climb_end, climb_name, leads_somewhere}
-use Rattle.tcl_tree.proofs.FallLemmas.{falls_behind, falls_all, one_more, nothing_above, stood_climbs, stood_ends, stood_somewhere}
+use Rattle.tcl_interpreter.proofs.LastNames.{falls_behind, falls_all}
+use Rattle.tcl_tree.proofs.FallLemmas.{one_more, nothing_above, stood_climbs, stood_ends, stood_somewhere}
 use Rattle.tcl_tree.specs.Gone.{held_of}
 use Rattle.tcl_tree.specs.Held.{StoodAt}
 use Rattle.tcl_tree.proofs.tree.Tree.last_names.Goals.{else-climb-test, then-climb-test+in_default, then-climb-test+in-Some+in_default-parent}
