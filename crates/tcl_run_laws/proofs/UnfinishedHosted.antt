@@ -1,5 +1,5 @@
 -- What comes with a host comes with the host and the call that is open to it, and the same happens.
-use Rattle.std.proofs.Common.{◌≡◌, refl, sym, ap, subst, Some, None, length}
+use Rattle.std.proofs.Common.{◌≡◌, refl, sym, ap, subst, [], Some, None, length}
 use Rattle.tcl_core.specs.Endings.{Reply}
 use Rattle.tcl_core.specs.Endings.Kind.{Full, Gone}
 use Rattle.tcl_core.specs.Endings.Reply.{Completed, Stop, Exit, Cut}
