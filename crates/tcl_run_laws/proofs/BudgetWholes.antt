@@ -1,8 +1,8 @@
 -- What the laws of the core say of a whole evaluation.
-use Rattle.std.proofs.Common.{◌≡◌, ◌∙◌, ◌⊎◌, inl, inr, ℕ, ◌≤◌, ◌+◌, Bool, true, false, List, [], ◌∷◌, ◌++◌, Option, Some, None, refl, sym, ap, subst, arith}
+use Rattle.std.proofs.Common.{◌≡◌, ◌∙◌, ◌⊎◌, inl, inr, ℕ, ◌≤◌, ◌+◌, Bool, true, false, ◌&&◌, List, [], ◌∷◌, ◌++◌, Option, Some, None, refl, sym, ap, subst, arith}
 use Rattle.tcl_core.specs.Entries.{Answer}
 use Rattle.tcl_core.specs.Entries.Entry.{Eval}
-use Rattle.tcl_core.specs.Laws.{AsLimited, IsHeld, IsSpared, IsSteady, IsUpright, KeepsTop, Lasts, depth_left, is_spared}
+use Rattle.tcl_core.specs.Laws.{AsLimited, IsHeld, IsSpared, IsSteady, IsUpright, KeepsTop, Lasts, Spares, depth_left, is_spared, none_there, spares}
 use Rattle.tcl_core.specs.Lives.{End, Lives, Whole, alone, comes, count_at, idle, limit_at, limited, never, unlimited}
 use Rattle.tcl_core.specs.Paths.{Path, Place, Text}
 use Rattle.tcl_core.specs.Programs.{Table}
@@ -11,14 +11,14 @@ use Rattle.tcl_core.specs.Runs.{World}
 use Rattle.tcl_core.specs.Tables.{Keeps_to, unlimiting}
 use Rattle.tcl_core.specs.Trees.{Event, Node, Tree, What, depth_of, paid, seen_what}
 use Rattle.tcl_core.specs.Trees.Move.{Enter}
-use Rattle.tcl_core.specs.Trees.What.{Charged}
+use Rattle.tcl_core.specs.Trees.What.{Charged, Dropped}
 use Rattle.tcl_core.specs.Views.{steps_of, view}
 use Rattle.tcl_core.proofs.Counts.{bounded, counting, limiting, standing}
 use Rattle.tcl_core.proofs.Depths.{steady}
 use Rattle.tcl_core.proofs.Reacting.{life_of}
 use Rattle.tcl_core.proofs.Safeguards.{limits_kept}
 use Rattle.tcl_core.proofs.Stops.{stopping}
-use Rattle.tcl_run_laws.specs.Budgets.{CountsRise, CountsStayWithin, DepthsComeBack, IsNested, IsOrderly, LimitsStay, StopsAreObeyed}
+use Rattle.tcl_run_laws.specs.Budgets.{CountsRise, CountsStayWithin, DepthsComeBack, DepthsStay, IsNested, IsOrderly, LimitsStay, StopsAreObeyed}
 use Rattle.tcl_run_laws.proofs.Orders.{nested_at_rest, nested_relimited, orderly_relimited, root_limit, same_depth, still_there, upright_of}
 use Rattle.tcl_run_laws.proofs.Spared.{comes_keep, root_spared}
 
@@ -32,6 +32,15 @@ none_left true d v e f = e ∙ f
 none_left false d v e f = e
 
 module _ {O : Type 0} where
+  -- who isn't dropped by these isn't by the first of them
+  spared_so : (q p : Place) (x : What O) → Spares q p x → spares q p x ≡ true
+  spared_so q p Dropped f = ap none_there f
+  spared_so q p x f = refl
+
+  spared_first : (q : Place) (a b : List (Event O)) → IsSpared q (a ++ b) → is_spared q a ≡ true
+  spared_first q [] b f = refl
+  spared_first q (ev ∷ a) b (f, g) = ap (λ y. y && is_spared q a) (spared_so q ev.place ev.what f) ∙ spared_first q a b g
+
   paid_seen : (q : Place) (x : What O) (k : ℕ) → paid (seen_what q x) k ≡ paid x k
   paid_seen q Charged k = refl
   paid_seen q x k = refl
@@ -124,6 +133,12 @@ module _ {O I : Type 0} (prog : Table O I) (T V : Tree O) (p : Path) (s : Text) 
         ∙ ap (λ (U : Tree O). depth_of (U q)) w.run.leaving.tree
         ∙ (still nested).depths w.reply refl q
         ∙ ap (depth_left (is_spared q (still nested).made)) (ap (λ (U : Tree O). depth_of (U q)) w.run.entry.tree ∙ same_depth raised T q)
+
+    pub spared_depths : DepthsStay T w.tape V
+    spared_depths nested q f =
+        let after : IsSpared q w.run.entered.tape = (subst (IsSpared q) w.run.entry.tape f).1 in
+        let within : is_spared q (still nested).made ≡ true = spared_first q (still nested).made w.run.left.tape (subst (IsSpared q) (still nested).happened after) in
+        left_depths nested q ∙ ap (λ b. depth_left b (depth_of (T q))) within
 
     pub depths : DepthsComeBack T V
     depths = record {
