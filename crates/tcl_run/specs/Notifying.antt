@@ -23,7 +23,7 @@ use Rattle.tcl_tree.specs.declared.tree.Tree.{Tree}
 -- was told that: from the state before that goes to z.
 abbrev pub WasUnfound : {S : Type 0} → Going S → core.Tree Own → S → Path → Entry → Reply → S →
     Type 0
-WasUnfound {S} goes T o t i r z = (c : Completion) (before : S) → r ≡ Completed c →
+WasUnfound {S} goes T o t i r z = (c : Completion) (before : S) → r ≡ Completed c → T t ≡ None →
     goes T before None (event t (In None i)) o → goes T before None (event [] (Unfound t i c)) z
 
 -- Told of a child that was dropped; of a call within the tree, of its answer, or of one that finds
