@@ -10,7 +10,7 @@ use Rattle.tcl_core.specs.Runs.{carried, gone}
 use Rattle.tcl_core.specs.Trees as core
 use Rattle.tcl_core.specs.Trees.What.{Dropped, Out, In, Done, Back, Unfound}
 use Rattle.tcl_run.specs.Ends.{IfEnded}
-use Rattle.tcl_run.specs.Entering.{handed, whole_entry}
+use Rattle.tcl_run.specs.Entering.{whole_entry}
 use Rattle.tcl_run.specs.Outsides.{Going, Enters, Returns, Misses}
 use Rattle.tcl_run.specs.declared.outside.Happening.{Happening}
 use Rattle.tcl_run.specs.declared.outside.Happening.TheVariants as happening
@@ -60,4 +60,4 @@ Notified goes hands_in t o (happening.ExitCameBack caller up entry status) z =
     (event p (Back up (Replied (Exit status)))) z
 Notified goes hands_in t o (happening.Unfound target entry told) z =
     hands_in → IfEnded told.now (λ r.
-    WasUnfound goes (tree_of t) o target.now (handed target.now (whole_entry entry.now)) r z)
+    WasUnfound goes (tree_of t) o target.now (whole_entry entry.now) r z)
