@@ -13,8 +13,8 @@ is_gone-requires c =
           (deleted_or_not c.nest.new.self c.delete-deleted.new.self (c.args.parent.now ++ c.args.name.now ∷ []) c.delete-deleted.result c.delete-deleted.ensures.parts c.delete-deleted.ensures.held),
     )
 
-pub unnest-requires-holds : goal.unnest-requires-holds
-unnest-requires-holds c =
+pub unnest-requires-clause-holds : goal.unnest-requires-clause-holds
+unnest-requires-clause-holds c =
     let began = c.in_ok-place.ensures in
     let p = c.args.path.now in (
       p,
@@ -23,8 +23,8 @@ unnest-requires-holds c =
           (deleted_or_not c.nest.new.self c.delete-deleted.new.self (c.args.parent.now ++ c.args.name.now ∷ []) c.delete-deleted.result c.delete-deleted.ensures.parts c.delete-deleted.ensures.held),
     )
 
-pub unnest-requires-innermost : goal.unnest-requires-innermost
-unnest-requires-innermost c =
+pub unnest-requires-clause-innermost : goal.unnest-requires-clause-innermost
+unnest-requires-clause-innermost c =
     let began = c.in_ok-place.ensures in
     let p = c.args.path.now in
     began_innermost c.args.tree.now c.in_ok-place.place p (sym (began.keys p) ∙ began.place) c.nest.new.self c.delete-deleted.new.self began.keys began.deeper
