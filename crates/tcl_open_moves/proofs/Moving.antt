@@ -53,7 +53,7 @@ use Rattle.tcl_tree.specs.Gone.{Holds}
 use Rattle.tcl_tree.specs.TreeOf.{Names, key_of, marks_of, tree_of}
 use Rattle.tcl_tree.specs.declared.tree.Tree.{Tree as Table}
 use Rattle.tcl_open_moves.specs.OpenMoves.{ComesOf, FindsNobody, GivesUp, GivesUpIn, GivesUpOn, IsDenied, IsGivenUp, KeepsCounts, Serves, between, within, budgeted_of, by_budget, grants, hands, halt_at, halt_of, last_end, result_of}
-use Rattle.tcl_open_moves.proofs.Spending.{All, Denies, all_of, all_paid, counted_at_most, denies}
+use Rattle.tcl_open_moves.proofs.Spending.{All, Denies, all_of, all_paid, counted_at_most, denied}
 use Rattle.tcl_open_moves.specs.declared.moves.Outcome.{Outcome}
 use Rattle.tcl_open_moves.specs.declared.moves.Outcome.TheVariants as outcome
 use Rattle.tcl_eval.proofs.Starting.{some_way}
@@ -425,10 +425,10 @@ module _ {S : Type 0} (goes : Going S) where
 
   pub denied_so : (style : Integers) (T V : core.Tree Own) (o z : S) (limit : ℕ) (a b : Budgeted S) (h : Option Halt) (e : Option ℤ) (x : Outcome) → Lived (by_budget goes) (language style) T a V b (last_end e) → a ≡ at goes o limit None → z ≡ b.outside → h ≡ b.halt →
       result_of x ≡ moving.result_by (option_map halt_of h) (last_end e) → x ≡ outcome.Denied → IsDenied goes T o limit z
-  denied_so style T V o z limit a b h e x life first same halted is denied =
+  denied_so style T V o z limit a b h e x life first same halted is refused =
       let all = went style T V o limit a b e life first in
-      let by : moving.Halted moving.Refuses ≡ moving.result_by (option_map halt_of b.halt) (last_end e) = sym (ap result_of denied) ∙ is ∙ ap (λ k. moving.result_by (option_map halt_of k) (last_end e)) halted in
-      let r : Denies goes [] T o limit b.outside = denies goes all.chain refl (refused_by (option_map halt_of b.halt) (last_end e) by) in
+      let by : moving.Halted moving.Refuses ≡ moving.result_by (option_map halt_of b.halt) (last_end e) = sym (ap result_of refused) ∙ is ∙ ap (λ k. moving.result_by (option_map halt_of k) (last_end e)) halted in
+      let r : Denies goes [] T o limit b.outside = denied goes all.chain refl (refused_by (option_map halt_of b.halt) (last_end e) by) in
       record { tape = r.tape; calls = r.calls; during = r.during; last = r.last; place = r.place; chain = r.chain; refused = subst (λ u. goes r.during r.last None (event r.place (Refused Count None)) u) (sym same) r.refused; within = r.within }
 
   -- the root is counted at most by the budget

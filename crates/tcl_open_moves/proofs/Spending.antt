@@ -185,10 +185,10 @@ module _ {O S : Type 0} (goes : Tree O → S → Wait → Event O → S → Type
     pub refused : goes during last None (event place (Refused Count None)) z
     pub within : steps_of tape ≤ most
 
-  pub denies : {cs ds : Open} {T V : Tree O} {y z : Budgeted S} {τ : List (Event O)} → Chain (Crossings (budgeted goes)) cs T y τ ds V z → y.halt ≡ None → z.halt ≡ Some Refuses → Denies cs T y.outside y.left z.outside
-  denies none on is = absurd (not_both on is)
-  denies {cs} {ds} {T} {V} {y} {z} (more {u = u} {ev = ev} a rest) on is =
-      by (on_step T y (answers_to ev.place ev.what cs) ev.place ev.what u on a.told) (λ e. denies rest e is) (λ f e. over rest f e)
+  pub denied : {cs ds : Open} {T V : Tree O} {y z : Budgeted S} {τ : List (Event O)} → Chain (Crossings (budgeted goes)) cs T y τ ds V z → y.halt ≡ None → z.halt ≡ Some Refuses → Denies cs T y.outside y.left z.outside
+  denied none on is = absurd (not_both on is)
+  denied {cs} {ds} {T} {V} {y} {z} (more {u = u} {ev = ev} a rest) on is =
+      by (on_step T y (answers_to ev.place ev.what cs) ev.place ev.what u on a.told) (λ e. denied rest e is) (λ f e. over rest f e)
     where
       by : Meets T y (answers_to ev.place ev.what cs) ev.place ev.what u → (u.halt ≡ None → Denies (calls_after T ev.place ev.what cs) (effect ev.place ev.what T) u.outside u.left z.outside) → ((f : Halt) → u.halt ≡ Some f → z ≡ u) → Denies cs T y.outside y.left z.outside
       by (goes_on e t k) later ended =
