@@ -348,8 +348,8 @@ module _ {S : Type 0} (goes : Going S) (loses : S → S → Type 0) where
   pub gives_up_there : (style : Integers) (T : core.Tree Own) (o z : S) (p target : Path) (i : Entry) → p ≡ target → GivesUpIn (ways goes loses) style T o p i z → GivesUpOn (ways goes loses) style T o target i z
   gives_up_there style T o z p target i e h = λ before l. inl (subst (λ (q : Path). GivesUpIn (ways goes loses) style T o q i z) e h)
 
-  pub gives_up_nowhere : (style : Integers) (T : core.Tree Own) (o z : S) (target : Path) (i : Entry) → IsLoss loses o z → GivesUpOn (ways goes loses) style T o target i z
-  gives_up_nowhere style T o z target i m = λ before l. inr (lost_twice (lost_once l) m)
+  pub gives_up_nowhere : (style : Integers) (T : core.Tree Own) (o z : S) (p target : Path) (i : Entry) → p ≡ target → T p ≡ None → IsLoss loses o z → GivesUpOn (ways goes loses) style T o target i z
+  gives_up_nowhere style T o z p target i e nobody m = λ before l. inr (ap T (sym e) ∙ nobody, lost_twice (lost_once l) m)
 
   pub given_up_between : (style : Integers) (T U : core.Tree Own) (o u z : S) → Lived goes (language style) T o U u core_lives.Finished → loses u z → GivesUp (ways goes loses) style T o z
   given_up_between style T U o u z l e = record { last = u; stopped = between l; lost = lost_once e }
@@ -358,9 +358,9 @@ module _ {S : Type 0} (goes : Going S) (loses : S → S → Type 0) where
       GivesUpOn (ways goes loses) (marks_of t).integers (tree_of t) w target i z → GivesUp (ways goes loses) style T o z
   given_up_within style T t o u w z target i e l s handed h = by (subst (λ k. GivesUpOn (ways goes loses) k (tree_of t) w target i z) e h u handed)
     where
-      by : GivesUpIn (ways goes loses) style (tree_of t) w target i z ⊎ IsLoss loses u z → GivesUp (ways goes loses) style T o z
+      by : GivesUpIn (ways goes loses) style (tree_of t) w target i z ⊎ ((tree_of t target ≡ None) × IsLoss loses u z) → GivesUp (ways goes loses) style T o z
       by (inl r) = record { last = r.last; stopped = within target i l r.stands (s (tree_of t)) r.begun; lost = r.lost }
-      by (inr m) = record { last = u; stopped = between l; lost = m }
+      by (inr m) = record { last = u; stopped = between l; lost = m.1 }
 
   -- what was lost by an outside with a budget was lost by the outside
   pub lost_there : {o z : Budgeted S} → IsLoss (λ (a b : Budgeted S). IsLoss loses a.outside b.outside) o z → IsLoss loses o.outside z.outside

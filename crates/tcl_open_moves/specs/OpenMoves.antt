@@ -124,7 +124,7 @@ pub record GivesUpIn {S : Type 0} (ways : Ways S) (style : Integers) (T : Tree O
 -- in.
 abbrev pub GivesUpOn : {S : Type 0} → Ways S → Integers → Tree Own → S → Path → Entry → S → Type 0
 GivesUpOn {S} ways style T o target i z = (before : S) → ways.loses before o →
-    GivesUpIn ways style T o target i z ⊎ IsLoss ways.loses before z
+    GivesUpIn ways style T o target i z ⊎ ((T target ≡ None) × IsLoss ways.loses before z)
 
 -- So far a life came that was given up: between two entries, or in one that was handed in to
 -- somebody.
