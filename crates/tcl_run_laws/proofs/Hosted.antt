@@ -13,7 +13,7 @@ use Rattle.tcl_core.specs.Programs.{Act, Calls_only, Prog, Table, Wait, spot, cl
 use Rattle.tcl_core.specs.Programs.Act.{Look, Change, Charge, Limit, LimitDepth, Make, Drop}
 use Rattle.tcl_core.specs.Programs.Next.{Off}
 use Rattle.tcl_core.specs.Programs.Prog.{done, exit, act, go, inside, call, wait}
-use Rattle.tcl_core.specs.Runs.{carried, carried_by, ended, gone, height_of, lessened, reached, returned}
+use Rattle.tcl_core.specs.Runs.{carried, carried_by, ended, gone, gone_from, height_of, lessened, reached, returned}
 use Rattle.tcl_core.specs.Execution.{Executes, event, passing}
 use Rattle.tcl_core.specs.Execution.Executes.{completed, exited, acted, refused, went, passed, wrapped, wrapped_passed, too_deep, shut, called, called_passed, unreached, called_out, answered, heard, missed, answered_passed, entered, entered_exiting, unfound}
 use Rattle.tcl_core.specs.Trees.{Event, Node, Tree, What, at, depth_of, effect}
@@ -159,41 +159,41 @@ module _ {I S R : Type 0} (step : S → TheirRequest → TheirReply → S → Ty
   unfound_not T o u t i c g = absurd (so T o None (event [] (Unfound t i c)) u g).told
 
   -- how a call past the top is answered
-  by_host : (o u : S) (p : Place) (s : Wait) (a : Answer) → rise_to (height_of s) p ≡ None → hosted_by step o s (Back (height_of s) a) u → Goes step (holding o s) p (Back (height_of s) a) (holding u None)
-  by_host o u p None a past g = absurd g
-  by_host o u p (Some (None, AskHost request, d)) (Heard a) past (q, reply, e1, e2, s) = hears q reply d (ap (λ z. Back None (Heard z)) (sym e2)) (ap (λ z. Some (None, AskHost z, d)) (sym e1)) s refl
-  by_host o u p (Some (None, AskHost request, d)) (Replied (Stop n Gone)) past (q, reply, e1, s) = hears_not q reply d n refl (ap (λ z. Some (None, AskHost z, d)) (sym e1)) s refl
-  by_host o u p (Some (None, AskHost request, d)) (Replied (Stop n (Full m))) past g = absurd g
-  by_host o u p (Some (None, AskHost request, d)) (Replied (Completed c)) past g = absurd g
-  by_host o u p (Some (None, AskHost request, d)) (Replied (Exit n)) past g = absurd g
-  by_host o u p (Some (None, AskHost request, d)) (Replied (Cut c)) past g = absurd g
-  by_host o u p (Some (None, AskHost request, d)) Nobody past g = absurd g
-  by_host o u p (Some (None, i, d)) a past g = absurd g
-  by_host o u p (Some (Some n, i, d)) (Heard a) past g = absurd g
-  by_host o u p (Some (Some n, i, d)) Nobody past g = misses n i d refl past refl (ap (λ z. holding z None) g)
-  by_host o u p (Some (Some n, i, d)) (Replied (Stop l Gone)) past g = misses_not n i d l refl past refl (ap (λ z. holding z None) g)
-  by_host o u p (Some (Some n, i, d)) (Replied (Stop l (Full m))) past g = absurd g
-  by_host o u p (Some (Some n, i, d)) (Replied (Completed c)) past g = absurd g
-  by_host o u p (Some (Some n, i, d)) (Replied (Exit l)) past g = absurd g
-  by_host o u p (Some (Some n, i, d)) (Replied (Cut c)) past g = absurd g
+  by_host : (g : Option ℕ) (o u : S) (p : Place) (s : Wait) (a : Answer) → rise_to (height_of s) p ≡ None → hosted_by step g o s (Back (height_of s) a) u → Goes step (holding o s) p (Back (height_of s) a) (holding u None)
+  by_host l o u p None a past g = absurd g
+  by_host l o u p (Some (None, AskHost request, d)) (Heard a) past (q, reply, e1, e2, s) = hears q reply d (ap (λ z. Back None (Heard z)) (sym e2)) (ap (λ z. Some (None, AskHost z, d)) (sym e1)) s refl
+  by_host l o u p (Some (None, AskHost request, d)) (Replied (Stop n Gone)) past (q, reply, e1, s) = hears_not q reply d n refl (ap (λ z. Some (None, AskHost z, d)) (sym e1)) s refl
+  by_host l o u p (Some (None, AskHost request, d)) (Replied (Stop n (Full m))) past g = absurd g
+  by_host l o u p (Some (None, AskHost request, d)) (Replied (Completed c)) past g = absurd g
+  by_host l o u p (Some (None, AskHost request, d)) (Replied (Exit n)) past g = absurd g
+  by_host l o u p (Some (None, AskHost request, d)) (Replied (Cut c)) past g = absurd g
+  by_host l o u p (Some (None, AskHost request, d)) Nobody past g = absurd g
+  by_host l o u p (Some (None, i, d)) a past g = absurd g
+  by_host l o u p (Some (Some n, i, d)) (Heard a) past g = absurd g
+  by_host l o u p (Some (Some n, i, d)) Nobody past g = misses n i d refl past refl (ap (λ z. holding z None) g)
+  by_host l o u p (Some (Some n, i, d)) (Replied (Stop m Gone)) past g = misses_not n i d m refl past refl (ap (λ z. holding z None) g.1)
+  by_host l o u p (Some (Some n, i, d)) (Replied (Stop k (Full m))) past g = absurd g
+  by_host l o u p (Some (Some n, i, d)) (Replied (Completed c)) past g = absurd g
+  by_host l o u p (Some (Some n, i, d)) (Replied (Exit m)) past g = absurd g
+  by_host l o u p (Some (Some n, i, d)) (Replied (Cut c)) past g = absurd g
 
   -- and never by what cuts off
-  answer_uncut : (o u : S) (s : Wait) (r : Reply) → hosted_by step o s (Back (height_of s) (Replied r)) u → NotCut r
-  answer_uncut o u s (Completed c) g = tt
-  answer_uncut o u s (Stop n m) g = tt
-  answer_uncut o u s (Exit n) g = tt
-  answer_uncut o u None (Cut c) g = absurd g
-  answer_uncut o u (Some (None, AskHost request, d)) (Cut c) g = absurd g
-  answer_uncut o u (Some (None, i, d)) (Cut c) g = absurd g
-  answer_uncut o u (Some (Some n, i, d)) (Cut c) g = absurd g
+  answer_uncut : (l : Option ℕ) (o u : S) (s : Wait) (r : Reply) → hosted_by step l o s (Back (height_of s) (Replied r)) u → NotCut r
+  answer_uncut l o u s (Completed c) g = tt
+  answer_uncut l o u s (Stop n m) g = tt
+  answer_uncut l o u s (Exit n) g = tt
+  answer_uncut l o u None (Cut c) g = absurd g
+  answer_uncut l o u (Some (None, AskHost request, d)) (Cut c) g = absurd g
+  answer_uncut l o u (Some (None, i, d)) (Cut c) g = absurd g
+  answer_uncut l o u (Some (Some n, i, d)) (Cut c) g = absurd g
 
   -- it is told so
-  told_back : (T : Tree Own) (o u : State) (p : Place) (s : Wait) (a : Answer) → rise_to (height_of s) p ≡ None → Taped goes T o s (event p (Back (height_of s) a)) u → hosted_by step (host_of o.0) s (Back (height_of s) a) (host_of u.0)
+  told_back : (T : Tree Own) (o u : State) (p : Place) (s : Wait) (a : Answer) → rise_to (height_of s) p ≡ None → Taped goes T o s (event p (Back (height_of s) a)) u → hosted_by step (gone_from s T p) (host_of o.0) s (Back (height_of s) a) (host_of u.0)
   told_back T o u p s a past g = subst (λ b. passing b (hosted_at step) T (host_of o.0) s (event p (Back (height_of s) a)) (host_of u.0)) past (so T o s (event p (Back (height_of s) a)) u g).told
 
   comes_back : (T : Tree Own) (o u : State) (p : Place) (s : Wait) (a : Answer) → rise_to (height_of s) p ≡ None → Taped goes T o s (event p (Back (height_of s) a)) u →
       Taped (keeps_call step) T (keeping o s) s (event p (Back (height_of s) a)) (keeping u None)
-  comes_back T o u p s a past g = record { goes = by_host (host_of o.0) (host_of u.0) p s a past (told_back T o u p s a past g); written = g.written }
+  comes_back T o u p s a past g = record { goes = by_host (gone_from s T p) (host_of o.0) (host_of u.0) p s a past (told_back T o u p s a past g); written = g.written }
 
   -- What comes so, with the call that is open; the top still stands; and the end is none from outside.
   pub record Held (T : Tree Own) (o : State) (c : Wait) (p : Place) (x : Prog Own I) (V : Tree Own) (z : State) (r : Reply) : Type 0 where
@@ -278,7 +278,7 @@ module _ {I S R : Type 0} (step : S → TheirRequest → TheirReply → S → Ty
       let g = calm T u p (k Missed) V z r (f Missed) (held t (fit (k Missed) (f Missed)) (l Missed) top) in
       record { executes = missed e is_fit (comes_back T o u p s Nobody e j) g.executes; top = g.top; uncut = g.uncut }
   held (answered_passed {T} {o} {u} {p} {s} {k} {r} q e is_fit j) f l top =
-      record { executes = answered_passed q e is_fit (comes_back T o u p s (Replied r) e j); top = top; uncut = answer_uncut (host_of o.0) (host_of u.0) s r (told_back T o u p s (Replied r) e j) }
+      record { executes = answered_passed q e is_fit (comes_back T o u p s (Replied r) e j); top = top; uncut = answer_uncut (gone_from s T p) (host_of o.0) (host_of u.0) s r (told_back T o u p s (Replied r) e j) }
   held (entered {T} {U} {V} {o} {o1} {o2} {o3} {z} {p} {s} {k} {node} {y} {r} t i e here s1 m s2 no_exit n) f l top = enters_not T o o1 t i s1
   held (entered_exiting {T} {U} {o} {o1} {o2} {o3} {o4} {p} {c} {k} {node} {n} t i e here s1 m s2 s3) f l top = enters_not T o o1 t i s1
   held (unfound {T} {V} {o} {u} {z} {p} {s} {k} {r} t i e nobody s1 n) f l top = unfound_not T o u t i (prog.lost t) s1

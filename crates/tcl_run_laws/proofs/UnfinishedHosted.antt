@@ -1,5 +1,5 @@
 -- What comes with a host comes with the host and the call that is open to it, and the same happens.
-use Rattle.std.proofs.Common.{◌≡◌, refl, sym, ap, subst, [], Some, None, length}
+use Rattle.std.proofs.Common.{◌≡◌, refl, sym, ap, subst, ℕ, [], Option, Some, None, length}
 use Rattle.tcl_core.specs.Endings.{Reply}
 use Rattle.tcl_core.specs.Endings.Kind.{Full, Gone}
 use Rattle.tcl_core.specs.Endings.Reply.{Completed, Stop, Exit, Cut}
@@ -9,7 +9,7 @@ use Rattle.tcl_core.specs.Entries.Entry.{AskHost}
 use Rattle.tcl_core.specs.Entries.Said.{Finished, Told as told_so, Missed}
 use Rattle.tcl_core.specs.Paths.{Path, Place, Height, rise_to}
 use Rattle.tcl_core.specs.Programs.{Calls_only, Prog, Table, Wait, spot, closes}
-use Rattle.tcl_core.specs.Runs.{height_of, returned}
+use Rattle.tcl_core.specs.Runs.{gone_from, height_of, returned}
 use Rattle.tcl_core.specs.Execution.{Crossings, Executes, event, passing}
 use Rattle.tcl_core.specs.Execution.Executes.{completed, exited, acted, refused, went, passed, wrapped, wrapped_passed, too_deep, shut, called, called_passed, unreached, called_out, answered, heard, missed, answered_passed, entered, entered_exiting, unfound}
 use Rattle.tcl_core.specs.Trees.{Event, Tree, What, at, depth_of, effect}
@@ -73,27 +73,27 @@ module _ {I S : Type 0} (step : S → TheirRequest → TheirReply → S → Type
   unfound_not T o u t i c g = absurd g.told
 
   -- how a call past the top is answered
-  by_host : (o u : S) (p : Place) (s : Wait) (a : Answer) → rise_to (height_of s) p ≡ None → hosted_by step o s (Back (height_of s) a) u → Goes step (o, s) p (Back (height_of s) a) (u, None)
-  by_host o u p None a past g = absurd g
-  by_host o u p (Some (None, AskHost request, d)) (Heard a) past (q, reply, e1, e2, s) = hears q reply d (ap (λ z. Back None (Heard z)) (sym e2)) (ap (λ z. Some (None, AskHost z, d)) (sym e1)) s refl
-  by_host o u p (Some (None, AskHost request, d)) (Replied (Stop n Gone)) past (q, reply, e1, s) = hears_not q reply d n refl (ap (λ z. Some (None, AskHost z, d)) (sym e1)) s refl
-  by_host o u p (Some (None, AskHost request, d)) (Replied (Stop n (Full m))) past g = absurd g
-  by_host o u p (Some (None, AskHost request, d)) (Replied (Completed c)) past g = absurd g
-  by_host o u p (Some (None, AskHost request, d)) (Replied (Exit n)) past g = absurd g
-  by_host o u p (Some (None, AskHost request, d)) (Replied (Cut c)) past g = absurd g
-  by_host o u p (Some (None, AskHost request, d)) Nobody past g = absurd g
-  by_host o u p (Some (None, i, d)) a past g = absurd g
-  by_host o u p (Some (Some n, i, d)) (Heard a) past g = absurd g
-  by_host o u p (Some (Some n, i, d)) Nobody past g = misses n i d refl past refl (ap (λ z. (z, None)) g)
-  by_host o u p (Some (Some n, i, d)) (Replied (Stop l Gone)) past g = misses_not n i d l refl past refl (ap (λ z. (z, None)) g)
-  by_host o u p (Some (Some n, i, d)) (Replied (Stop l (Full m))) past g = absurd g
-  by_host o u p (Some (Some n, i, d)) (Replied (Completed c)) past g = absurd g
-  by_host o u p (Some (Some n, i, d)) (Replied (Exit l)) past g = absurd g
-  by_host o u p (Some (Some n, i, d)) (Replied (Cut c)) past g = absurd g
+  by_host : (g : Option ℕ) (o u : S) (p : Place) (s : Wait) (a : Answer) → rise_to (height_of s) p ≡ None → hosted_by step g o s (Back (height_of s) a) u → Goes step (o, s) p (Back (height_of s) a) (u, None)
+  by_host l o u p None a past g = absurd g
+  by_host l o u p (Some (None, AskHost request, d)) (Heard a) past (q, reply, e1, e2, s) = hears q reply d (ap (λ z. Back None (Heard z)) (sym e2)) (ap (λ z. Some (None, AskHost z, d)) (sym e1)) s refl
+  by_host l o u p (Some (None, AskHost request, d)) (Replied (Stop n Gone)) past (q, reply, e1, s) = hears_not q reply d n refl (ap (λ z. Some (None, AskHost z, d)) (sym e1)) s refl
+  by_host l o u p (Some (None, AskHost request, d)) (Replied (Stop n (Full m))) past g = absurd g
+  by_host l o u p (Some (None, AskHost request, d)) (Replied (Completed c)) past g = absurd g
+  by_host l o u p (Some (None, AskHost request, d)) (Replied (Exit n)) past g = absurd g
+  by_host l o u p (Some (None, AskHost request, d)) (Replied (Cut c)) past g = absurd g
+  by_host l o u p (Some (None, AskHost request, d)) Nobody past g = absurd g
+  by_host l o u p (Some (None, i, d)) a past g = absurd g
+  by_host l o u p (Some (Some n, i, d)) (Heard a) past g = absurd g
+  by_host l o u p (Some (Some n, i, d)) Nobody past g = misses n i d refl past refl (ap (λ z. (z, None)) g)
+  by_host l o u p (Some (Some n, i, d)) (Replied (Stop m Gone)) past g = misses_not n i d m refl past refl (ap (λ z. (z, None)) g.1)
+  by_host l o u p (Some (Some n, i, d)) (Replied (Stop k (Full m))) past g = absurd g
+  by_host l o u p (Some (Some n, i, d)) (Replied (Completed c)) past g = absurd g
+  by_host l o u p (Some (Some n, i, d)) (Replied (Exit m)) past g = absurd g
+  by_host l o u p (Some (Some n, i, d)) (Replied (Cut c)) past g = absurd g
 
   -- and from then on none is open
   pub comes_back : (T : Tree Own) (o u : S) (p : Place) (s : Wait) (a : Answer) → rise_to (height_of s) p ≡ None → Goes_so T o s (event p (Back (height_of s) a)) u → keeps_call step T (o, s) s (event p (Back (height_of s) a)) (u, None)
-  comes_back T o u p s a past g = by_host o u p s a past (subst (λ b. passing b (hosted_at step) T o s (event p (Back (height_of s) a)) u) past g.told)
+  comes_back T o u p s a past g = by_host (gone_from s T p) o u p s a past (subst (λ b. passing b (hosted_at step) T o s (event p (Back (height_of s) a)) u) past g.told)
 
   -- what comes so, with the call that is open at first, and none in the end
   abbrev pub Held : Tree Own → S → Wait → Place → Prog Own I → Tree Own → S → Reply → Type 0
