@@ -46,7 +46,7 @@ pub fn hiding_failure(alloc: Global, refusal: TreeError, name: &str, hidden: &st
     }
 }
 
-/// An evaluation is in progress in the interpreter, or it is the one that asks.
+/// The interpreter is the one that asks, which doesn't delete itself.
 pub fn in_use(alloc: Global, path: &str) -> Interruption
     ensures { Interrupts result (λ e. e ≡ Completed (failing (interpreters.in_use path.now))) }
 {
