@@ -71,7 +71,6 @@ pub(crate) fn naming_failure(alloc: Global, refusal: TreeError, word: &Value) ->
         TreeError::NoHidden => invalid_hidden(alloc, text.as_str()),
         TreeError::BadCount => denied(alloc),
         TreeError::NoInterpreter => denied(alloc),
-        TreeError::InUse => denied(alloc),
         TreeError::Denied => denied(alloc),
         TreeError::TooMany => denied(alloc),
         TreeError::CountLimit(_) => denied(alloc),

@@ -126,11 +126,6 @@ mod tests {
         see(alloc, EmbedError::from(TreeError::Exists), exists)?;
         see(
             alloc,
-            EmbedError::from(TreeError::InUse),
-            "303: interpreter is in use",
-        )?;
-        see(
-            alloc,
             EmbedError::from(TreeError::Denied),
             "304: permission denied",
         )?;

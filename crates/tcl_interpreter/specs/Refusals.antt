@@ -5,7 +5,7 @@ use Rattle.tcl_text.specs.Messages as messages
 use Rattle.tcl_interpreter.specs.declared.refusal.TreeError.{TreeError}
 use Rattle.tcl_interpreter.specs.declared.refusal.TreeError.TheVariants.{Memory, BadName, BadCount}
 use Rattle.tcl_interpreter.specs.declared.refusal.TreeError.TheVariants.{NoInterpreter, Exists}
-use Rattle.tcl_interpreter.specs.declared.refusal.TreeError.TheVariants.{InUse, Denied, NoCommand}
+use Rattle.tcl_interpreter.specs.declared.refusal.TreeError.TheVariants.{Denied, NoCommand}
 use Rattle.tcl_interpreter.specs.declared.refusal.TreeError.TheVariants.{NoHidden, TooMany}
 use Rattle.tcl_interpreter.specs.declared.refusal.TreeError.TheVariants.{CountLimit, DepthLimit}
 use Rattle.tcl_interpreter.specs.declared.refusal.TreeError.TheVariants.{BadDepthLimit}
@@ -16,7 +16,6 @@ text_of BadName x = codes "bad name \"" ++ x ++ codes "\""
 text_of BadCount x = codes "bad count \"" ++ x ++ codes "\""
 text_of NoInterpreter x = codes "could not find interpreter \"" ++ x ++ codes "\""
 text_of Exists x = codes "\"" ++ x ++ codes "\" already exists"
-text_of InUse x = codes "interpreter \"" ++ x ++ codes "\" is in use"
 text_of Denied x = messages.denied
 text_of NoCommand x = codes "invalid command name \"" ++ x ++ codes "\""
 text_of NoHidden x = codes "invalid hidden command name \"" ++ x ++ codes "\""

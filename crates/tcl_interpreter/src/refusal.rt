@@ -27,9 +27,6 @@ pub enum TreeError {
     /// There is a command of this name (302).
     #[error("302: a command of this name already exists")]
     Exists,
-    /// An evaluation is in progress in the interpreter, or it is the one that asks (303).
-    #[error("303: interpreter is in use")]
-    InUse,
     /// The interpreter may not do this (304).
     #[error("304: {}", DENIED)]
     Denied,
@@ -97,7 +94,6 @@ impl TreeError {
             TreeError::BadCount => format!(in alloc; "bad count \"{word}\""),
             TreeError::NoInterpreter => format!(in alloc; "could not find interpreter \"{word}\""),
             TreeError::Exists => quoted(alloc, word, ALREADY_EXISTS),
-            TreeError::InUse => format!(in alloc; "interpreter \"{word}\" is in use"),
             TreeError::Denied => String::from_str(alloc, DENIED),
             TreeError::NoCommand => format!(in alloc; "invalid command name \"{word}\""),
             TreeError::NoHidden => format!(in alloc; "invalid hidden command name \"{word}\""),

@@ -29,7 +29,6 @@ tree_number tree_error.BadName = 238
 tree_number tree_error.BadCount = 245
 tree_number tree_error.NoInterpreter = 301
 tree_number tree_error.Exists = 302
-tree_number tree_error.InUse = 303
 tree_number tree_error.Denied = 304
 tree_number tree_error.NoCommand = 305
 tree_number tree_error.NoHidden = 306

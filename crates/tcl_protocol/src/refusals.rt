@@ -112,7 +112,6 @@ fn tree_number(error: TreeError) -> u64
         TreeError::BadCount => 245,
         TreeError::NoInterpreter => 301,
         TreeError::Exists => 302,
-        TreeError::InUse => 303,
         TreeError::Denied => 304,
         TreeError::NoCommand => 305,
         TreeError::NoHidden => 306,

@@ -81,7 +81,7 @@ pub(crate) fn create(tree: &mut Tree, alloc: Global, create: &Create) -> Result<
 /// Deletes the interpreter at the path.
 ///
 /// # Errors
-/// 513; 301; 303; want of memory.
+/// 513; 301; want of memory.
 pub(crate) fn delete(tree: &mut Tree, alloc: Global, path: &[Text]) -> Result<Answer, Refusal>
     ensures answer { IfOk result (λ a. a ≡ Done) }
     ensures dropped { OnOk result

@@ -62,7 +62,7 @@ pub enum Refusal {
 }
 
 /// All of them, by their numbers.
-pub const ALL: [Refusal; 31] = [
+pub const ALL: [Refusal; 30] = [
     Refusal::UnmatchedBrace,
     Refusal::UnmatchedQuote,
     Refusal::AfterBrace,
@@ -74,7 +74,6 @@ pub const ALL: [Refusal; 31] = [
     Refusal::NoFile,
     Refusal::Tree(TreeError::NoInterpreter),
     Refusal::Tree(TreeError::Exists),
-    Refusal::Tree(TreeError::InUse),
     Refusal::Tree(TreeError::Denied),
     Refusal::Tree(TreeError::NoCommand),
     Refusal::Tree(TreeError::NoHidden),
@@ -167,7 +166,6 @@ fn tree_number(error: TreeError) -> i32
         TreeError::BadCount => 245,
         TreeError::NoInterpreter => 301,
         TreeError::Exists => 302,
-        TreeError::InUse => 303,
         TreeError::Denied => 304,
         TreeError::NoCommand => 305,
         TreeError::NoHidden => 306,
@@ -187,7 +185,6 @@ fn tree_text(error: TreeError) -> &'static str
         TreeError::BadCount => "bad count",
         TreeError::NoInterpreter => "could not find interpreter",
         TreeError::Exists => "already exists",
-        TreeError::InUse => "interpreter is in use",
         TreeError::Denied => DENIED,
         TreeError::NoCommand => "invalid command name",
         TreeError::NoHidden => "invalid hidden command name",

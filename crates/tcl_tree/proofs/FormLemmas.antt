@@ -13,7 +13,7 @@ use Rattle.tcl_interpreter.specs.Own.{Own}
 use Rattle.tcl_tree.specs.TreeOf.{tree_of}
 use Rattle.tcl_interpreter.specs.declared.node.Node.{Node}
 use Rattle.tcl_interpreter.specs.declared.refusal.TreeError.{TreeError}
-use Rattle.tcl_interpreter.specs.declared.refusal.TreeError.TheVariants.{Memory, BadName, BadCount, NoInterpreter, Exists, InUse, Denied, NoCommand, NoHidden, TooMany, CountLimit, DepthLimit, BadDepthLimit}
+use Rattle.tcl_interpreter.specs.declared.refusal.TreeError.TheVariants.{Memory, BadName, BadCount, NoInterpreter, Exists, Denied, NoCommand, NoHidden, TooMany, CountLimit, DepthLimit, BadDepthLimit}
 use Rattle.tcl_tree.specs.declared.tree.Tree.{Tree}
 use Rattle.tcl_tree.proofs.HeapLemmas.{tree-at, tree-none}
 
@@ -55,7 +55,6 @@ deepen_refused BadName f p down limit h = absurd h
 deepen_refused BadCount f p down limit h = absurd h
 deepen_refused NoInterpreter f p down limit h = absurd h
 deepen_refused Exists f p down limit h = absurd h
-deepen_refused InUse f p down limit h = absurd h
 deepen_refused NoCommand f p down limit h = absurd h
 deepen_refused NoHidden f p down limit h = absurd h
 deepen_refused TooMany f p down limit h = absurd h
@@ -93,7 +92,6 @@ first_deepen BadName f p down limit t h = absurd h
 first_deepen BadCount f p down limit t h = absurd h
 first_deepen NoInterpreter f p down limit t h = absurd h
 first_deepen Exists f p down limit t h = absurd h
-first_deepen InUse f p down limit t h = absurd h
 first_deepen NoCommand f p down limit t h = absurd h
 first_deepen NoHidden f p down limit t h = absurd h
 first_deepen TooMany f p down limit t h = absurd h
