@@ -96,7 +96,6 @@ tells_cases refusal.BadName message i t = inr (λ e. cc, t)
 tells_cases refusal.BadCount message i t = inr (λ e. cc, t)
 tells_cases refusal.NoInterpreter message i t = inr (λ e. cc, t)
 tells_cases refusal.Exists message i t = inr (λ e. cc, t)
-tells_cases refusal.InUse message i t = inr (λ e. cc, t)
 tells_cases refusal.Denied message i t = inr (λ e. cc, t)
 tells_cases refusal.NoCommand message i t = inr (λ e. cc, t)
 tells_cases refusal.NoHidden message i t = inr (λ e. cc, t)
@@ -210,7 +209,6 @@ depth_refused t u place limit e i here below refuses same told = fails_told t u 
     why p n at is refusal.BadCount h = elim h [ ]
     why p n at is refusal.NoInterpreter h = elim h [ ]
     why p n at is refusal.Exists h = elim h [ ]
-    why p n at is refusal.InUse h = elim h [ ]
     why p n at is refusal.NoCommand h = elim h [ ]
     why p n at is refusal.NoHidden h = elim h [ ]
     why p n at is refusal.TooMany h = elim h [ ]
@@ -316,7 +314,6 @@ module _ (t u : Table) (place : TablePlace) (name : Text) (safe : Bool) (absent 
       (ap (λ (m : Node Own). nat_le 256 (length m.own.children)) (sym v) ∙ many) d)))
   create_refused refusal.NoInterpreter i here refuses told = let n = there t place here.0 here.1 in let clash : None ≡ Some n.0 = sym (refuses here.0 here.1) ∙ n.1 in absurd cc
   create_refused refusal.BadCount i here refuses told = elim (refuses here.0 here.1) [ ]
-  create_refused refusal.InUse i here refuses told = elim (refuses here.0 here.1) [ ]
   create_refused refusal.Denied i here refuses told = elim (refuses here.0 here.1) [ ]
   create_refused refusal.NoCommand i here refuses told = elim (refuses here.0 here.1) [ ]
   create_refused refusal.NoHidden i here refuses told = elim (refuses here.0 here.1) [ ]
@@ -351,7 +348,6 @@ delete_refused t u place name e i here refuses same told = by e refuses
     by refusal.NoInterpreter h = fails_told t u place (interpreters.deletes name) (interpreters.no_interpreter (written_list (name ∷ []))) i same told (λ p n r at is d.
         does_look (tree_of t) (tree_of t) p r n (λ m. act Look (λ U. interpreters.drops name m.own (U (name ∷ [])))) is
         (subst (λ (o : Option (Node Own)). Does (interpreters.drops name n.own o) (tree_of t) p (tree_of t) r) (sym (h p at)) d))
-    by refusal.InUse h = elim (h here.0 here.1) [ ]
     by refusal.Memory h = elim (h here.0 here.1) [ ]
     by refusal.BadName h = elim (h here.0 here.1) [ ]
     by refusal.BadCount h = elim (h here.0 here.1) [ ]

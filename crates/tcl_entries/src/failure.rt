@@ -27,7 +27,6 @@ pub fn refusal_failure(alloc: Global, refusal: TreeError, word: &str) -> Interru
         TreeError::NoHidden => invalid_hidden(alloc, word),
         TreeError::BadCount
         | TreeError::NoInterpreter
-        | TreeError::InUse
         | TreeError::Denied
         | TreeError::TooMany
         | TreeError::CountLimit(_)
