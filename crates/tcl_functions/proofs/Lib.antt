@@ -1,1 +1,2 @@
+pub mod Aliasing
 mod Ways

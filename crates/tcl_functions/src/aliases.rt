@@ -58,7 +58,7 @@ fn alias_to(
     ensures marks { marks_of tree.new ≡ marks_of tree.old }
 {
     let alias = alias_of(alloc, path, function)?;
-    match tree.set_alias(path, name, alias) {
+    match tree.set_alias(alloc, path, name, &alias) {
         Ok(()) => Ok(()),
         Err(refused) => Err(refused),
     }
