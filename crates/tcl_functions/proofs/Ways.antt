@@ -27,7 +27,7 @@ use Rattle.tcl_host.specs.declared.request.Request.{Request}
 use Rattle.tcl_run.proofs.Endings.{Interrupts-more, IfEnded-more}
 use Rattle.tcl_run.proofs.Fitting.{own_reply, told_fits}
 use Rattle.tcl_run.specs.Ends.{IfEnded, Interrupts}
-use Rattle.tcl_run.specs.Entering.{handed, request_of}
+use Rattle.tcl_run.specs.Entering.{request_of}
 use Rattle.tcl_run.specs.Notifying.{WasUnfound}
 use Rattle.tcl_run.specs.Outsides.{AnswersFor, ComesNext, Enters, Misses, Returns, reply_of, told_to}
 use Rattle.tcl_run.specs.declared.interruption.Interruption.{Interruption}
@@ -132,7 +132,7 @@ module _ {F H : Type 0} (serves : Serving F) (step : Hosting H) where
   -- an entry that found nobody
   pub unfound : (T : Tree Own) (o z : WithFunctions F H) (t : Path) (i : Entry) (end : Result (List ℕ) Interruption) → IfEnded end (λ r. HearsEnd (seen r) o z) → IfEnded end (λ r. WasUnfound (going serves step) T o t i r z)
   unfound T o z t i end h = IfEnded-more end (λ r. HearsEnd (seen r) o z) (λ r. WasUnfound (going serves step) T o t i r z)
-      (λ r hears c before is handed_in. record { between = o; hands_in = handed_in; hears = subst (λ (x : Reply). HearsEnd (seen x) o z) is hears }) h
+      (λ r hears c before is absent handed_in. record { between = o; hands_in = handed_in; hears = subst (λ (x : Reply). HearsEnd (seen x) o z) is hears }) h
 
 pub begun : {F H : Type 0} (o z : WithFunctions F H) (h : Height) (n : ℕ) (p : Path) (i : Entry) → h ≡ Some n → rise_to h p ≡ None → Begins o p i z → past (rise_to h p) o z (GoesOut h o p i z)
 begun o z h n p i is top b = outer (rise_to h p) o z _ top (subst (λ (k : Height). GoesOut k o p i z) (sym is) b)
@@ -163,17 +163,15 @@ module _ {F H : Type 0} (serves : Serving F) (o z : WithFunctions F H) where
   ends below call d e stood does closes says = Interrupts-more e (EndsSo d) (λ r. EndsCall serves o r z) (λ r g. served below call d stood does (ends_by o.entries d r g) closes) says
 
   module _ (u : WithFunctions F H) (below : List Call) (call : Call) (d : ActionView) (target : List (List ℕ)) (entry : Entry) (is : d ≡ EntersFirst target entry) (stood : o.calls.items ≡ below ++ call ∷ []) (does : serves o.functions call d u.functions) (closes : Closes o below u) where
-    asked_so : serves o.functions call (EntersFirst target entry) u.functions
-    asked_so = subst (λ y. serves o.functions call y u.functions) is does
+    handed : serves o.functions call (EntersFirst target entry) u.functions
+    handed = subst (λ y. serves o.functions call y u.functions) is does
 
-    pub enters : Reopens u call z → HandsIn serves o target (handed target entry) z
+    pub enters : Reopens u call z → HandsIn serves o target entry z
     enters w = record {
       below = below;
       call = call;
-      asked = entry;
       stood = stood;
-      does = subst (λ f. serves o.functions call (EntersFirst target entry) f) (sym w.functions) asked_so;
-      comes_in = refl;
+      does = subst (λ f. serves o.functions call (EntersFirst target entry) f) (sym w.functions) handed;
       stands = w.stands ∙ ap (λ cs. cs ++ call ∷ []) closes.calls;
       left = sym closes.keeps.entries ∙ w.left;
       host = w.host ∙ closes.keeps.host;
@@ -181,4 +179,4 @@ module _ {F H : Type 0} (serves : Serving F) (o z : WithFunctions F H) where
     }
 
     pub spent : (e : Interruption) → Interrupts e (IsSpent u z) → Serves serves o z (Err e)
-    spent e says = Interrupts-more e (IsSpent u z) (λ r. EndsCall serves o r z) (λ r g. served below call (EntersFirst target entry) stood (subst (λ w. serves o.functions call (EntersFirst target entry) w.functions) (sym g.same) asked_so) (sym closes.keeps.entries ∙ g.spent, g.says) (subst (λ w. Closes o below w) (sym g.same) closes)) says
+    spent e says = Interrupts-more e (IsSpent u z) (λ r. EndsCall serves o r z) (λ r g. served below call (EntersFirst target entry) stood (subst (λ w. serves o.functions call (EntersFirst target entry) w.functions) (sym g.same) handed) (sym closes.keeps.entries ∙ g.spent, g.says) (subst (λ w. Closes o below w) (sym g.same) closes)) says

@@ -23,7 +23,7 @@ use Rattle.tcl_functions.specs.declared.serving.WithFunctions.{WithFunctions}
 use Rattle.tcl_host.specs.declared.reply.HostReply.{HostReply}
 use Rattle.tcl_host.specs.declared.request.Request.{Request}
 use Rattle.tcl_run.specs.Ends.{Interrupts}
-use Rattle.tcl_run.specs.Entering.{handed, request_of, whole_entry}
+use Rattle.tcl_run.specs.Entering.{request_of, whole_entry}
 use Rattle.tcl_run.specs.Outsides.{Going, reply_of}
 use Rattle.tcl_run.specs.declared.interruption.Interruption.{Interruption}
 use Rattle.tcl_run.specs.declared.outside.Turn.{Turn}
@@ -62,16 +62,13 @@ pub record Begins {F H : Type 0} (o : WithFunctions F H) (p : Path) (i : Entry)
   pub functions : z.functions ≡ o.functions
   pub keeps : Keeps o z
 
--- The last open call hands in an entry, which is one less that may be handed in. It comes in as
--- what is handed in from outside does.
+-- The last open call hands in an entry, which is one less that may be handed in.
 pub record HandsIn {F H : Type 0} (serves : Serving F) (o : WithFunctions F H) (t : Path)
     (i : Entry) (z : WithFunctions F H) : Type 0 where
   pub below : List Call
   pub call : Call
-  pub asked : Entry
   pub stood : o.calls.items ≡ below ++ call ∷ []
-  pub does : serves o.functions call (Enters t asked) z.functions
-  pub comes_in : i ≡ handed t asked
+  pub does : serves o.functions call (Enters t i) z.functions
   pub stands : z.calls.items ≡ below ++ call ∷ []
   pub left : o.entries ≡ z.entries + 1
   pub host : z.host ≡ o.host
@@ -213,7 +210,7 @@ going serves step T o s ev z = meets serves step o s ev.place ev.what z
 abbrev pub Serves : {F H : Type 0} → Serving F → WithFunctions F H → WithFunctions F H →
     Result Turn Interruption → Type 0
 Serves serves o z (Ok (turn.Entry target entry)) = HandsIn serves o target.items
-    (handed target.items (whole_entry entry)) z
+    (whole_entry entry) z
 Serves serves o z (Ok (turn.Completed text)) = Prim.⊥
 Serves serves o z (Ok (turn.Heard reply)) = Prim.⊥
 Serves serves o z (Ok turn.Nobody) = HasNoCall o z

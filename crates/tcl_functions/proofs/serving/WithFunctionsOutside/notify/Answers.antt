@@ -3,7 +3,7 @@ use Rattle.std.specs.Prelude.{OnOk}
 use Rattle.std.proofs.lemmas.Result.{on_ok_weaker}
 use Rattle.tcl_run.proofs.Quiet.{within_unchanged}
 use Rattle.tcl_tree.specs.TreeOf.{tree_of}
-use Rattle.tcl_run.specs.Entering.{handed, whole_entry}
+use Rattle.tcl_run.specs.Entering.{whole_entry}
 use Rattle.tcl_run.specs.Notifying.{Notified}
 use Rattle.tcl_run.specs.declared.outside.Happening.{Happening}
 use Rattle.tcl_functions.proofs.Ways.{enters_unheard, exit_back, misses_unheard, returns_unheard, unfound}
@@ -29,7 +29,7 @@ returns-in-Unfound-clause-told g c =
     let found = c.in-Unfound in
     subst (λ (w : Happening). OnOk c.hear_end-in-Unfound.result (Notified (going serves step) (Unit {0}) c.args.tree.now c.args.self.now w c.hear_end-in-Unfound.new.self)) (sym found.is)
     (on_ok_weaker c.hear_end-in-Unfound.result
-    (λ e may. unfound serves step (tree_of c.args.tree.now) c.args.self.now c.hear_end-in-Unfound.new.self found.target.now (handed found.target.now (whole_entry found.entry.now)) found.told.now e)
+    (λ e may. unfound serves step (tree_of c.args.tree.now) c.args.self.now c.hear_end-in-Unfound.new.self found.target.now (whole_entry found.entry.now) found.told.now e)
     c.hear_end-in-Unfound.ensures.hears)
 
 pub returns-in-Some-up-clause-told : goal.returns-in-Some-up-clause-told
