@@ -1,8 +1,6 @@
 -- What stays as it is where an interpreter is asked for something that evaluates nothing.
-use Rattle.std.proofs.Common.{◌≡◌, ◌⊎◌, inl, inr, ℕ, ◌+◌, ◌≤◌, Bool, true, false, [], ◌∷◌, ◌++◌, length, Option, Some, None, refl, sym, ◌∙◌, ap, subst, append-nil, append_assoc, length-append, rules, arith}
-use Rattle.std.specs.Prelude.{is_some, ◌==◌}
-use Rattle.std.proofs.lemmas.Bool.Decides.{nat_tests}
-use Rattle.slab.specs.Slab.{get}
+use Rattle.std.proofs.Common.{◌≡◌, ◌⊎◌, inl, inr, ℕ, ◌+◌, Bool, true, false, [], ◌∷◌, ◌++◌, length, Option, Some, None, refl, sym, ◌∙◌, ap, subst, append-nil, append_assoc, length-append, rules, arith}
+use Rattle.std.specs.Prelude.{is_some}
 use Rattle.std.specs.Option.{option_map}
 use Rattle.tcl_core.specs.Paths.{Text, Path, strip}
 use Rattle.tcl_core.specs.Trees.{Tree, Node, effect, at_end, where_some, with_own, with_limit, with_depth_limit, fresh}
@@ -13,8 +11,7 @@ use Rattle.tcl_run.specs.Runs.{meters_of, meters_at, depth_in, steps_at, InUse, 
 use Rattle.tcl_run.proofs.Steady.{changed_level, counted-refl, same_counted, steps_of}
 use Rattle.tcl_tree.specs.Changes.{MayMake, Makes, Drops}
 use Rattle.tcl_tree.specs.Gone.{held_of}
-use Rattle.tcl_tree.specs.Held as holdings
-use Rattle.tcl_tree.specs.Held.{Held, Gains, Parts, parted, parted_by, Stays}
+use Rattle.tcl_tree.specs.Held.{Gains, Parts, Stays}
 use Rattle.tcl_tree.specs.Naming.{Named, Becomes}
 use Rattle.tcl_tree.specs.Own.{Own}
 use Rattle.tcl_tree.specs.Paths.{is_above}
@@ -22,8 +19,8 @@ use Rattle.tcl_tree.specs.TreeOf.{tree_of, key_of, marks_of, Names}
 use Rattle.tcl_tree.specs.declared.tree.Tree.{Tree as Table}
 use Rattle.tcl_tree.specs.declared.tree.Place.{Place as TablePlace}
 use Rattle.tcl_tree.proofs.CoreLemmas.{tree_there}
-use Rattle.tcl_tree.proofs.HeldLemmas.{follow_stands, follow_there, not_gone, stands_path}
-use Rattle.tcl_tree.proofs.HeapLemmas.{one_path}
+use Rattle.tcl_tree.proofs.HeldLemmas.{not_gone}
+use Rattle.tcl_tree.proofs.PartLemmas.{parts_stay}
 use Rattle.tcl_tree.proofs.PathLemmas.{above_cases}
 use Rattle.tcl_tree.proofs.StayLemmas.{stays_gains, stays_same}
 use Rattle.tcl_entries.proofs.Served.{there}
@@ -206,45 +203,6 @@ created_here t u place name safe marks keys may makes = seen_here t u place mark
     seen_made (tree_of t) (tree_of u) p a name _ _ _ (makes p named m.parent m.here) (λ f. not_below p a b [] name is (strip-sound (p ++ name ∷ []) a [] f)))
 
 -- ## Children that are deleted
-
-parted_stays : (x : Option Held) → (1 ≤ holdings.depth_at x → holdings.above_at (parted x) ≡ holdings.above_at x) × (holdings.depth_at (parted x) ≡ holdings.depth_at x)
-parted_stays None = (λ l. refl, refl)
-parted_stays (Some x) = by (x.depth == 0) refl
-  where
-    by : (b : Bool) → (x.depth == 0) ≡ b → (1 ≤ x.depth → holdings.above_at (parted_by b x) ≡ x.above) × (holdings.depth_at (parted_by b x) ≡ x.depth)
-    by true e = let z : x.depth ≡ 0 = grind (arith, nat_tests) in (λ l. absurd (omega arith), sym z)
-    by false e = (λ l. refl, refl)
-
-module _ (t u : Table) (c : Path) (parts : Parts (held_of t) (key_of t) c (held_of u)) where
-  -- what there is at a key is as it was, or it stood and is gone
-  parts_cases : (k : ℕ) → (held_of u k ≡ held_of t k) ⊎ ((held_of u k ≡ parted (held_of t k)) × (holdings.gone_at (held_of t k) ≡ false))
-  parts_cases k = by (is_some (held_of t k)) refl (holdings.gone_at (held_of t k)) refl
-    where
-      along : (q : Path) → key_of t q ≡ Some k → holdings.gone_at (held_of t k) ≡ false → (b : Bool) → is_above c q ≡ b → (held_of u k ≡ held_of t k) ⊎ ((held_of u k ≡ parted (held_of t k)) × (holdings.gone_at (held_of t k) ≡ false))
-      along q at f true g = inr (parts.below q k g at, f)
-      along q at f false g = inl (parts.others k (λ x above e. not_gone (is_above c x) above (ap (is_above c) (one_path (get t.nodes) t.root t.sound x q k e at) ∙ g)))
-
-      by : (b : Bool) → is_some (held_of t k) ≡ b → (g : Bool) → holdings.gone_at (held_of t k) ≡ g → (held_of u k ≡ held_of t k) ⊎ ((held_of u k ≡ parted (held_of t k)) × (holdings.gone_at (held_of t k) ≡ false))
-      by false e g f = inl (parts.others k (λ q above at. not_gone (is_some (held_of t k)) (follow_there (get t.nodes) t.root t.sound t.ordered q k at) e))
-      by true e true f = inl (parts.others k (λ q above at. not_gone (holdings.gone_at (held_of t k)) f (follow_stands (get t.nodes) t.root t.sound t.ordered q k at)))
-      by true e false f = let q = stands_path (get t.nodes) t.root t.sound t.ordered k e f in along q.0 q.1 f (is_above c q.0) refl
-
-  -- who is in use is so still, there or gone
-  parts_stay : Stays (held_of t) (held_of u)
-  parts_stay = record {
-    above = λ k l. elim (parts_cases k) [
-      | inl e ↦ ap holdings.above_at e
-      | inr w ↦ ap holdings.above_at w.0 ∙ (parted_stays (held_of t k)).0 l
-    ];
-    depth = λ k. elim (parts_cases k) [
-      | inl e ↦ ap holdings.depth_at e
-      | inr w ↦ ap holdings.depth_at w.0 ∙ (parted_stays (held_of t k)).1
-    ];
-    gone = λ k g. elim (parts_cases k) [
-      | inl e ↦ ap holdings.gone_at e ∙ g
-      | inr w ↦ not_gone (holdings.gone_at (held_of t k)) g w.1
-    ];
-  }
 
 pub deleted_steady : (t u : Table) (place : TablePlace) (name : Text) → marks_of u ≡ marks_of t → ((p : Path) → Names t place p → Parts (held_of t) (key_of t) (p ++ name ∷ []) (held_of u)) → (p : Path) × Names t place p →
     ((p : Path) → Names t place p → Drops (tree_of t) (tree_of u) p name) → IsSteady t u
