@@ -1,2 +1,1 @@
-pub mod Aliasing
 mod Ways
