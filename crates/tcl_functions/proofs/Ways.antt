@@ -80,33 +80,33 @@ module _ {F H : Type 0} (serves : Serving F) (step : Hosting H) where
   -- ## What passes the top
 
   -- a caller that is gone is told that in place of a completion
-  told_back : (o z : WithFunctions F H) (n d : ℕ) (i : Entry) (g : Option ℕ) (r : Reply) → EndsCall serves o r z → ComesBack serves step o (Some (Some n, i, d)) (told_to g (Replied r)) z
+  told_back : (o z : WithFunctions F H) (n d : ℕ) (i : Entry) (g : Option ℕ) (r : Reply) → EndsCall serves o r z → ComesBack serves step o g (Some (Some n, i, d)) (told_to g (Replied r)) z
   told_back o z n d i None (Completed c) x = x
   told_back o z n d i None (Stop m k) x = absurd (no_stop serves o z m k x)
   told_back o z n d i None (Exit m) x = x
   told_back o z n d i None (Cut c) x = x
-  told_back o z n d i (Some l) (Completed c) x = inl (c, x)
+  told_back o z n d i (Some l) (Completed c) x = (refl, inl (c, x))
   told_back o z n d i (Some l) (Stop m k) x = absurd (no_stop serves o z m k x)
   told_back o z n d i (Some l) (Exit m) x = x
   told_back o z n d i (Some l) (Cut c) x = x
 
-  nobody_back : (o z : WithFunctions F H) (n d : ℕ) (i : Entry) (g : Option ℕ) → HasNoCall o z → ComesBack serves step o (Some (Some n, i, d)) (told_to g Nobody) z
+  nobody_back : (o z : WithFunctions F H) (n d : ℕ) (i : Entry) (g : Option ℕ) → HasNoCall o z → ComesBack serves step o g (Some (Some n, i, d)) (told_to g Nobody) z
   nobody_back o z n d i None x = x
-  nobody_back o z n d i (Some l) x = inr x
+  nobody_back o z n d i (Some l) x = (refl, inr x)
 
-  host_back : (o z : WithFunctions F H) (d : ℕ) (q : Request) (a : HostReply) (g : Option ℕ) → HearsHost step o (request_of q) (reply_of a) z → ComesBack serves step o (Some (None, AskHost (request_of q), d)) (told_to g (Heard (reply_of a))) z
+  host_back : (o z : WithFunctions F H) (d : ℕ) (q : Request) (a : HostReply) (g : Option ℕ) → HearsHost step o (request_of q) (reply_of a) z → ComesBack serves step o g (Some (None, AskHost (request_of q), d)) (told_to g (Heard (reply_of a))) z
   host_back o z d q a None x = x
-  host_back o z d q a (Some l) x = (reply_of a, x)
+  host_back o z d q a (Some l) x = (refl, reply_of a, x)
 
   ended : (T : Tree Own) (o z : WithFunctions F H) (h : Height) (n : ℕ) (p : Path) (d : ℕ) (i : Entry) (r : Reply) → h ≡ Some n → rise_to h p ≡ None → EndsCall serves o r z → AnswersFor (going serves step) T o p d h i z (Replied r)
   ended T o z h n p d i r is top x = (
-    outer (rise_to h p) o z _ top (subst (λ (k : Height). ComesBack serves step o (Some (k, i, d)) (told_to (gone d T p) (Replied r)) z) (sym is) (told_back o z n d i (gone d T p) r x)),
+    outer (rise_to h p) o z _ top (subst (λ (k : Height). ComesBack serves step o (gone d T p) (Some (k, i, d)) (told_to (gone d T p) (Replied r)) z) (sym is) (told_back o z n d i (gone d T p) r x)),
     told_fits d T p h i (Replied r) top (subst (λ (k : Height). is_own k i (Replied r) ≡ true) (sym is) (own_end serves o z n i r x)),
   )
 
   unanswered : (T : Tree Own) (o z : WithFunctions F H) (h : Height) (n : ℕ) (p : Path) (d : ℕ) (i : Entry) → h ≡ Some n → rise_to h p ≡ None → HasNoCall o z → AnswersFor (going serves step) T o p d h i z Nobody
   unanswered T o z h n p d i is top x = (
-    outer (rise_to h p) o z _ top (subst (λ (k : Height). ComesBack serves step o (Some (k, i, d)) (told_to (gone d T p) Nobody) z) (sym is) (nobody_back o z n d i (gone d T p) x)),
+    outer (rise_to h p) o z _ top (subst (λ (k : Height). ComesBack serves step o (gone d T p) (Some (k, i, d)) (told_to (gone d T p) Nobody) z) (sym is) (nobody_back o z n d i (gone d T p) x)),
     told_fits d T p h i Nobody top (subst (λ (k : Height). is_own k i Nobody ≡ true) (sym is) refl),
   )
 
@@ -125,9 +125,9 @@ module _ {F H : Type 0} (serves : Serving F) (step : Hosting H) where
   comes_next T o z h n p d i (Ok turn.Nobody) is top g = unanswered T o z h n p d i is top g
   comes_next T o z h n p d i (Err e) is top g = Interrupts-more e (λ r. EndsCall serves o r z) (λ r. AnswersFor (going serves step) T o p d h i z (Replied r)) (λ r x. ended T o z h n p d i r is top x) g
 
-  pub exit_back : (o z : WithFunctions F H) (h : Height) (n : ℕ) (p : Path) (d : ℕ) (i : Entry) (status : ℤ) → h ≡ Some n → rise_to h p ≡ None → ClosesByExit o z → past (rise_to h p) o z (ComesBack serves step o (Some (h, i, d)) (Replied (Exit status)) z)
-  exit_back o z h n p d i status is top c =
-      outer (rise_to h p) o z _ top (subst (λ (k : Height). ComesBack serves step o (Some (k, i, d)) (Replied (Exit status)) z) (sym is) (exited c.below c.call status c.exits c.stood refl c.functions c.closes))
+  pub exit_back : (o z : WithFunctions F H) (g : Option ℕ) (h : Height) (n : ℕ) (p : Path) (d : ℕ) (i : Entry) (status : ℤ) → h ≡ Some n → rise_to h p ≡ None → ClosesByExit o z → past (rise_to h p) o z (ComesBack serves step o g (Some (h, i, d)) (Replied (Exit status)) z)
+  exit_back o z g h n p d i status is top c =
+      outer (rise_to h p) o z _ top (subst (λ (k : Height). ComesBack serves step o g (Some (k, i, d)) (Replied (Exit status)) z) (sym is) (exited c.below c.call status c.exits c.stood refl c.functions c.closes))
 
   -- an entry that found nobody
   pub unfound : (T : Tree Own) (o z : WithFunctions F H) (t : Path) (i : Entry) (end : Result (List ℕ) Interruption) → IfEnded end (λ r. HearsEnd (seen r) o z) → IfEnded end (λ r. WasUnfound (going serves step) T o t i r z)

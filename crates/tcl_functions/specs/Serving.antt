@@ -10,7 +10,8 @@ use Rattle.tcl_core.specs.Entries.Answer.{Replied, Heard, Nobody}
 use Rattle.tcl_core.specs.Entries.Entry.{AskHost}
 use Rattle.tcl_core.specs.Paths.{Height, Path, Place, Text, rise_to}
 use Rattle.tcl_core.specs.Programs.{Wait}
-use Rattle.tcl_core.specs.Trees.{What}
+use Rattle.tcl_core.specs.Runs.{gone_from}
+use Rattle.tcl_core.specs.Trees.{Tree, What}
 use Rattle.tcl_core.specs.Trees.What.{Refused, Out, In, Done, Back, Unfound}
 use Rattle.tcl_flow.specs.View.{completion_of}
 use Rattle.tcl_flow.specs.declared.completion.Completion as code
@@ -148,7 +149,7 @@ pub record HasNoCall {F H : Type 0} (o z : WithFunctions F H) : Type 0 where
   pub exits : z.exits ≡ o.exits
   pub keeps : Keeps o z
 
--- The call ends by a completion, or nobody is there: of neither a caller is told that is gone.
+-- The call ends by a completion, or nobody is there: a caller that is gone is told of neither.
 abbrev pub EndsUntold : {F H : Type 0} → Serving F → WithFunctions F H → WithFunctions F H → Type 0
 EndsUntold serves o z = ((c : Completion) × EndsCall serves o (Completed c) z) ⊎ HasNoCall o z
 
@@ -178,33 +179,36 @@ abbrev pub GoesOut : {F H : Type 0} → Height → WithFunctions F H → Path �
 GoesOut None o p i z = z ≡ o
 GoesOut (Some n) o p i z = Begins o p i z
 
--- An answer comes back to the open call s. A caller that is gone is told that, and no more.
-abbrev pub ComesBack : {F H : Type 0} → Serving F → Hosting H → WithFunctions F H → Wait → Answer →
-    WithFunctions F H → Type 0
-ComesBack serves step o (Some (Some n, i, d)) (Replied (Stop m Gone)) z = EndsUntold serves o z
-ComesBack serves step o (Some (Some n, i, d)) (Replied r) z = EndsCall serves o r z
-ComesBack serves step o (Some (Some n, i, d)) Nobody z = HasNoCall o z
-ComesBack serves step o (Some (None, AskHost q, d)) (Heard a) z = HearsHost step o q a z
-ComesBack serves step o (Some (None, AskHost q, d)) (Replied (Stop m Gone)) z =
+-- An answer comes back to the open call s, whose caller is gone or isn't. One that is gone is told
+-- that in place of a completion, of a host's reply, and where nobody is there.
+abbrev pub ComesBack : {F H : Type 0} → Serving F → Hosting H → WithFunctions F H → Option ℕ →
+    Wait → Answer → WithFunctions F H → Type 0
+ComesBack serves step o g (Some (Some n, i, d)) (Replied (Stop m Gone)) z = (g ≡ Some m) ×
+    EndsUntold serves o z
+ComesBack serves step o g (Some (Some n, i, d)) (Replied r) z = EndsCall serves o r z
+ComesBack serves step o g (Some (Some n, i, d)) Nobody z = HasNoCall o z
+ComesBack serves step o g (Some (None, AskHost q, d)) (Heard a) z = HearsHost step o q a z
+ComesBack serves step o g (Some (None, AskHost q, d)) (Replied (Stop m Gone)) z = (g ≡ Some m) ×
     (a : core.HostReply) × HearsHost step o q a z
-ComesBack serves step o s a z = Prim.⊥
+ComesBack serves step o g s a z = Prim.⊥
 
-abbrev pub meets : {F H : Type 0} → Serving F → Hosting H → WithFunctions F H → Wait → Place →
-    What Own → WithFunctions F H → Type 0
-meets serves step o s p (Out h down i) z = past (rise_to h p) o z (GoesOut h o p i z)
-meets serves step o s p (In h i) z = past (rise_to h p) o z (HandsIn serves o p i z)
-meets serves step o s p (Done h r) z = past (rise_to h p) o z (HearsEnd (seen r) o z)
-meets serves step o s p (Back h a) z = past (rise_to h p) o z (ComesBack serves step o s a z)
-meets serves step o s p (Unfound t i c) z = FindsNobody serves o t i c z
-meets serves step o s p (Refused m None) z = Prim.⊥
-meets serves step o s p x z = z ≡ o
+abbrev pub meets : {F H : Type 0} → Serving F → Hosting H → Tree Own → WithFunctions F H → Wait →
+    Place → What Own → WithFunctions F H → Type 0
+meets serves step T o s p (Out h down i) z = past (rise_to h p) o z (GoesOut h o p i z)
+meets serves step T o s p (In h i) z = past (rise_to h p) o z (HandsIn serves o p i z)
+meets serves step T o s p (Done h r) z = past (rise_to h p) o z (HearsEnd (seen r) o z)
+meets serves step T o s p (Back h a) z = past (rise_to h p) o z
+    (ComesBack serves step o (gone_from s T p) s a z)
+meets serves step T o s p (Unfound t i c) z = FindsNobody serves o t i c z
+meets serves step T o s p (Refused m None) z = Prim.⊥
+meets serves step T o s p x z = z ≡ o
 
 -- Functions and a host go from one state to the next by what passes the top of the tree: a call of
 -- a function opens it, what the function does next hands in an entry or ends the call, an entry's
 -- end, or that it found nobody, is a reply to it, and a request is a step of the host. Where no call
 -- is open nobody is there. They refuse no step.
 abbrev pub going : {F H : Type 0} → Serving F → Hosting H → Going (WithFunctions F H)
-going serves step T o s ev z = meets serves step o s ev.place ev.what z
+going serves step T o s ev z = meets serves step T o s ev.place ev.what z
 
 -- what comes of an open call of a function
 abbrev pub Serves : {F H : Type 0} → Serving F → WithFunctions F H → WithFunctions F H →

@@ -1,6 +1,7 @@
 use Rattle.std.proofs.Common.{refl, subst, sym}
 use Rattle.std.specs.Prelude.{OnOk}
 use Rattle.std.proofs.lemmas.Result.{on_ok_weaker}
+use Rattle.tcl_core.specs.Runs.{gone}
 use Rattle.tcl_run.proofs.Quiet.{within_unchanged}
 use Rattle.tcl_tree.specs.TreeOf.{tree_of}
 use Rattle.tcl_run.specs.Entering.{whole_entry}
@@ -39,5 +40,5 @@ returns-in-Some-up-clause-told g c =
     let back = c.in-ExitCameBack in
     subst (λ (w : Happening). OnOk c.close.result (Notified (going serves step) (Unit {0}) c.args.tree.now c.args.self.now w c.close.new.self)) (sym back.is)
     (on_ok_weaker c.close.result
-    (λ e may p d at top. exit_back serves step c.args.self.now c.close.new.self back.up c.in-Some-up.field-0 p d (whole_entry back.entry.now) back.status c.in-Some-up.is top e)
+    (λ e may p d at top. exit_back serves step c.args.self.now c.close.new.self (gone d (tree_of c.args.tree.now) p) back.up c.in-Some-up.field-0 p d (whole_entry back.entry.now) back.status c.in-Some-up.is top e)
     c.close.ensures.closes)
