@@ -205,8 +205,8 @@ meets serves step T o s p x z = z ≡ o
 
 -- Functions and a host go from one state to the next by what passes the top of the tree: a call of
 -- a function opens it, what the function does next hands in an entry or ends the call, an entry's
--- end, or that it found nobody, is a reply to it, and a request is a step of the host. Where no call
--- is open nobody is there. They refuse no step.
+-- end, or that it found nobody, is a reply to it, and a request is a step of the host. Nobody is
+-- there where no call is open. They refuse no step.
 abbrev pub going : {F H : Type 0} → Serving F → Hosting H → Going (WithFunctions F H)
 going serves step T o s ev z = meets serves step T o s ev.place ev.what z
 
