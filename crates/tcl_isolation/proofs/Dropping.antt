@@ -1,5 +1,5 @@
 -- What a subtree by itself does with its record up to where it is dropped.
-use Rattle.std.proofs.Common.{◌≡◌, ◌⊎◌, inl, inr, ℕ, ◌≤◌, ◌+◌, List, [], ◌∷◌, ◌++◌, Option, Some, None, refl, sym, ◌∙◌, ap, subst, arith}
+use Rattle.std.proofs.Common.{◌≡◌, ◌⊎◌, inl, inr, ℕ, ◌≤◌, List, [], ◌∷◌, ◌++◌, Option, Some, None, refl, sym, ◌∙◌, ap, subst, arith}
 use Rattle.tcl_core.specs.Endings.{Reply}
 use Rattle.tcl_core.specs.Entries.{Entry}
 use Rattle.tcl_core.specs.Execution.{before, event}
@@ -13,14 +13,12 @@ use Rattle.tcl_core.specs.Runs.{Ending, Runs, World}
 use Rattle.tcl_core.specs.Trees.{Event, Move, Node, Tree, What, asked, at, paid, seen_what}
 use Rattle.tcl_core.specs.Trees.What.{Charged, Dropped}
 use Rattle.tcl_core.specs.Views.{from_above, kept, moves_of, steps_of, view}
-use Rattle.tcl_core.proofs.Conclusions.{moments}
 use Rattle.tcl_core.proofs.Dropped.{isolation_to_drop}
 use Rattle.tcl_core.proofs.Reactions.{one_reaction}
 use Rattle.tcl_core.proofs.Counts.{Meters, meters}
 use Rattle.tcl_core.proofs.Keeping.{KeepsSteps, runs_keep}
 use Rattle.tcl_core.proofs.Reacting.{IsLasting, lasting, life_of}
 use Rattle.tcl_core.proofs.Standing.{held_left, stands_of}
-use Rattle.tcl_recorder.specs.Boundary.{past_the_top}
 use Rattle.tcl_isolation.specs.Laws.{DoesJust}
 use Rattle.tcl_isolation.specs.Visits.{DroppedVisit, IsBelowTheTop, visit}
 use Rattle.tcl_isolation.proofs.Records.{moves_past, outs_past, unended}

@@ -9,7 +9,7 @@ use Rattle.tcl_core.specs.Lives.{Outcome, begun, begun_at, ended, ended_at, last
 use Rattle.tcl_core.specs.Lives.Outcome.{Finished}
 use Rattle.tcl_core.specs.Paths.{Place, rise_to, strip}
 use Rattle.tcl_core.specs.Execution.{event}
-use Rattle.tcl_core.specs.Trees.{Event, Move, Tree, What, asked, at_top, effect, seen_what, where_none}
+use Rattle.tcl_core.specs.Trees.{Event, Move, Tree, What, asked, at_top, effect, where_none}
 use Rattle.tcl_core.specs.Trees.Move.{Enter, Come, Born, Fall}
 use Rattle.tcl_core.specs.Trees.What.{Out, In, Done, Back, Made, Dropped, Unfound}
 use Rattle.tcl_core.specs.Views.{from_above, kept, moves_of, view}

@@ -98,14 +98,14 @@ falls_by c p x e = let clash : false ≡ true = e in absurd cc
 
 pub first_drop : (c : Place) (τ : List (Event Own)) → fallen_after false c τ ≡ true → FirstDrop c τ
 first_drop c [] e = let clash : false ≡ true = e in absurd cc
-first_drop c (ev ∷ τ) e = by (falls c ev) refl
+first_drop c (ev ∷ τ) e = by (falls c ev) refl (λ g. first_drop c τ g)
   where
-    by : (b : Bool) → falls c ev ≡ b → FirstDrop c (ev ∷ τ)
-    by true f =
+    by : (b : Bool) → falls c ev ≡ b → (fallen_after false c τ ≡ true → FirstDrop c τ) → FirstDrop c (ev ∷ τ)
+    by true f next =
         let g = falls_by c ev.place ev.what f in
         record { first = []; dropped = ev.place; below = g.0; last = τ; parts = ap (λ x. x ∷ τ) g.2; falls = g.1; spared = tt }
-    by false f =
-        let later : FirstDrop c τ = first_drop c τ (sym (ap (λ b. fallen_after (either b false) c τ) f) ∙ e) in
+    by false f next =
+        let later : FirstDrop c τ = next (sym (ap (λ b. fallen_after (either b false) c τ) f) ∙ e) in
         record {
           first = ev ∷ later.first;
           dropped = later.dropped;

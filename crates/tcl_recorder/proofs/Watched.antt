@@ -1,11 +1,11 @@
 -- What is recorded of a run.
-use Rattle.std.proofs.Common.{◌≡◌, Bool, true, false, List, [], ◌∷◌, ◌++◌, Option, Some, None, refl, sym, ◌∙◌, ap, append_assoc}
+use Rattle.std.proofs.Common.{◌≡◌, Bool, true, false, List, [], ◌∷◌, ◌++◌, Some, None, refl, sym, ◌∙◌, ap, append_assoc}
 use Rattle.tcl_core.specs.Endings.{Reply}
 use Rattle.tcl_core.specs.Paths.{Place}
 use Rattle.tcl_core.specs.Programs.{Prog, Table, Wait, either}
 use Rattle.tcl_core.specs.Execution.{Chain, Crossings, Executes, Fits, Open, answers_to, before, calls_after, pending, waits_for, event, hears, more, none}
 use Rattle.tcl_core.specs.Execution.Executes.{completed, exited, acted, refused, went, passed, wrapped, wrapped_passed, too_deep, shut, called, called_passed, unreached, called_out, answered, heard, missed, answered_passed, entered, entered_exiting, unfound}
-use Rattle.tcl_core.specs.Trees.{Event, Node, Tree, What, effect}
+use Rattle.tcl_core.specs.Trees.{Event, Tree, What, effect}
 use Rattle.tcl_core.specs.Trees.What.{Charged, Refused, Dropped, Out, In, Done, Back, Unfound}
 use Rattle.tcl_core.proofs.Following.{makes}
 use Rattle.tcl_run.specs.Outsides.{Going}
@@ -13,7 +13,7 @@ use Rattle.tcl_tree.specs.Own.{Own}
 use Rattle.tcl_recorder.specs.Laws.{IsNoCrossing, IsWatched, KeepsAll, WatchedRun}
 use Rattle.tcl_recorder.specs.Boundary.{boundary}
 use Rattle.tcl_recorder.specs.Records.{RecordView}
-use Rattle.tcl_recorder.specs.Recording.{Keeps, after, crossed, fallen_after, falls, met, met_by, noted_of, recorded, told_of, while_there}
+use Rattle.tcl_recorder.specs.Recording.{Keeps, after, fallen_after, falls, met, met_by, noted_of, recorded, told_of, while_there}
 use Rattle.tcl_recorder.specs.declared.recorder.Recorder.{Recorder}
 use Rattle.tcl_recorder.proofs.BoundaryLaws.{boundary_append}
 use Rattle.tcl_recorder.proofs.Fates.{either_true, or_not}
