@@ -8,12 +8,12 @@ use Rattle.tcl_core.specs.Paths.{Path, Place, rise_to}
 use Rattle.tcl_core.specs.Programs.{Prog, Table, Wait}
 use Rattle.tcl_core.specs.Programs.Prog.{wait}
 use Rattle.tcl_core.specs.Rules.{Derives}
-use Rattle.tcl_core.specs.Runs.{Ending, World, entering}
+use Rattle.tcl_core.specs.Runs.{Ending, World}
 use Rattle.tcl_core.specs.Execution.{before, event}
 use Rattle.tcl_core.specs.Trees.{Event, Move, Node, Tree, What, asked, at, at_top, where_none}
 use Rattle.tcl_core.specs.Trees.Grants.{Budget}
 use Rattle.tcl_core.specs.Trees.Move.{Born, Fall, Enter, Come}
-use Rattle.tcl_core.specs.Trees.What.{In, Back, Made, Dropped}
+use Rattle.tcl_core.specs.Trees.What.{In, Back, Made, Dropped, Unfound}
 use Rattle.tcl_core.specs.Views.{inside_of, moves_of, steps_of}
 use Rattle.tcl_core.proofs.Balance.{Owes, dones, ins, owes, view_dones, view_ins, visit_owes}
 use Rattle.tcl_core.proofs.Budgets.{budgeted}
@@ -28,22 +28,15 @@ use Rattle.tcl_core.proofs.RuleLaws.{derived_runs, runs_derived}
 use Rattle.tcl_core.proofs.Unended.{uncut}
 use Rattle.tcl_core.proofs.Worlds.{first_part, living}
 use Rattle.tcl_recorder.specs.Boundary.{past, past_the_top}
+use Rattle.tcl_recorder.proofs.BoundaryLaws.{past_the_top_append}
 use Rattle.tcl_isolation.specs.Visits.{IsBelowTheTop}
-use Rattle.tcl_isolation.proofs.Records.{Kind, kind, lasting_back, lasting_front, moves_past}
-use Rattle.tcl_isolation.proofs.Watching.{Watched, life, remains, same_moves, seen, tape, unended_seen}
+use Rattle.tcl_isolation.proofs.Records.{AreFound, IsFound, found_back, lasting_back, lasting_front, moves_past}
+use Rattle.tcl_isolation.proofs.Watching.{Watched, found, life, remains, same_moves, seen, tape, unended_seen}
 
 abbrev halted : Ending
 halted = None
 
 module _ {O : Type 0} where
-  pub past_append : (σ τ : List (Event O)) → past_the_top (σ ++ τ) ≡ past_the_top σ ++ past_the_top τ
-  past_append [] τ = refl
-  past_append (ev ∷ σ) τ = ap (past ev.place ev.what) (past_append σ τ) ∙ by (kind ev.place ev.what)
-    where
-      by : Kind ev.place ev.what → past ev.place ev.what (past_the_top σ ++ past_the_top τ) ≡ past ev.place ev.what (past_the_top σ) ++ past_the_top τ
-      by (inl e) = e (past_the_top σ ++ past_the_top τ) ∙ ap (λ l. l ++ past_the_top τ) (sym (e (past_the_top σ)))
-      by (inr e) = e (past_the_top σ ++ past_the_top τ) ∙ ap (λ l. l ++ past_the_top τ) (sym (e (past_the_top σ)))
-
   -- ## What reads a move is recorded
 
   abbrev Reads : Place → What O → Type 0
@@ -60,20 +53,21 @@ module _ {O : Type 0} where
   read_life [] m f g = absurd (f refl)
   read_life (y ∷ p) m f g = nothing_read g
 
-  read_past : (p : Place) (x : What O) (τ : List (Event O)) → Lasting p x → Reads p x → past p x τ ≡ event p x ∷ τ
-  read_past p (In h i) τ l f = read_put (rise_to h p) (rise_to h p) p (In h i) (Enter p i) τ refl (f [])
-  read_past p (Back h a) τ l f = read_put (rise_to h p) (rise_to h p) p (Back h a) (Come a) τ refl (f [])
-  read_past p (Made o s) τ l f = read_life p (Born o s) l (f [])
-  read_past p Dropped τ l f = read_life p Fall l (f [])
-  read_past p _ τ l f = nothing_read (f [])
+  read_past : (p : Place) (x : What O) (τ : List (Event O)) → IsFound x → Lasting p x → Reads p x → past p x τ ≡ event p x ∷ τ
+  read_past p (Unfound t i c) τ n l f = absurd n
+  read_past p (In h i) τ n l f = read_put (rise_to h p) (rise_to h p) p (In h i) (Enter p i) τ refl (f [])
+  read_past p (Back h a) τ n l f = read_put (rise_to h p) (rise_to h p) p (Back h a) (Come a) τ refl (f [])
+  read_past p (Made o s) τ n l f = read_life p (Born o s) l (f [])
+  read_past p Dropped τ n l f = read_life p Fall l (f [])
+  read_past p _ τ n l f = nothing_read (f [])
 
-  at_move_past : (τ : List (Event O)) → IsLasting τ → AtMove τ → AtMove (past_the_top τ)
-  at_move_past [] l f = tt
-  at_move_past (ev ∷ τ) l f = subst AtMove (sym (read_past ev.place ev.what (past_the_top τ) l.0 f)) f
+  at_move_past : (τ : List (Event O)) → AreFound τ → IsLasting τ → AtMove τ → AtMove (past_the_top τ)
+  at_move_past [] n l f = tt
+  at_move_past (ev ∷ τ) n l f = subst AtMove (sym (read_past ev.place ev.what (past_the_top τ) n.0 l.0 f)) f
 
-  beyond_past : (left : List (Move O)) (τ : List (Event O)) → IsLasting τ → Beyond left τ → AtMove (past_the_top τ)
-  beyond_past left τ l (inl e) = subst (λ σ. AtMove (past_the_top σ)) (sym e) tt
-  beyond_past left τ l (inr e) = at_move_past τ l e.1
+  beyond_past : (left : List (Move O)) (τ : List (Event O)) → AreFound τ → IsLasting τ → Beyond left τ → AtMove (past_the_top τ)
+  beyond_past left τ n l (inl e) = subst (λ σ. AtMove (past_the_top σ)) (sym e) tt
+  beyond_past left τ n l (inr e) = at_move_past τ n l e.1
 
   -- ## What a run reads is what its happenings read
 
@@ -128,7 +122,7 @@ module _ {O I S : Type 0} (goes : Tree O → S → Wait → Event O → S → Ty
   within_done w =
       let a = w.visits in
       let b : Owes c (before T (tape goes prog T V o z t i c crossings r w)) (before V []) (Some r) =
-      visit_owes c (before T (tape goes prog T V o z t i c crossings r w)) a.entered a.left (before V []) None t i r a.entry (owes c prog (runs_derived prog a.entered t (entering prog (T t) i) a.left (Some r) a.run)) a.leaving in
+      visit_owes c (before T (tape goes prog T V o z t i c crossings r w)) a.entered a.left (before V []) None t i r a.entry (owes c prog (runs_derived prog a.entered t (prog.entry i) a.left (Some r) a.run)) a.leaving in
       let s : ins c (tape goes prog T V o z t i c crossings r w) + 0 ≡ dones c (tape goes prog T V o z t i c crossings r w) + 0 + b.open_ins = b.sum in
       let n : b.open_ins ≡ 0 = b.none_left r refl in
       let e : ins c (tape goes prog T V o z t i c crossings r w) ≡ dones c (tape goes prog T V o z t i c crossings r w) = omega arith in
@@ -168,12 +162,12 @@ module _ {O I S : Type 0} (goes : Tree O → S → Wait → Event O → S → Ty
         runs = g.runs;
         reads = all;
         record_reads = moves_past g.made (lasting_front g.made g.rest lasting) ∙ all;
-        beyond = beyond_past g.last.moves g.rest (lasting_back g.made g.rest lasting) g.beyond;
+        beyond = beyond_past g.last.moves g.rest (found_back g.made g.rest (subst AreFound g.tape (found goes prog T V o z t i c crossings r w f))) (lasting_back g.made g.rest lasting) g.beyond;
       }
 
   -- a record in two
   pub in_two : (w : One) (front back : List (Event O)) → happens w ≡ front ++ back → crossings ≡ past_the_top front ++ past_the_top back
-  in_two w front back e = w.recorded ∙ ap past_the_top e ∙ past_append front back
+  in_two w front back e = w.recorded ∙ ap past_the_top e ∙ past_the_top_append front back
 
 module _ {O I S R : Type 0} (goes : Tree O → S → Wait → Event O → S → Type 0) (goes2 : Tree O → R → Wait → Event O → R → Type 0) (prog : Table O I)
     (T V T2 V2 : Tree O) (o z : S) (o2 z2 : R) (t t2 : Path) (i i2 : Entry) (c d : Place) (xs ys : List (Event O)) (r r2 : Reply) (n : Node O) where

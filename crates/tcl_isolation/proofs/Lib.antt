@@ -1,5 +1,6 @@
 pub mod Between
 pub mod Comparing
+pub mod Dropping
 pub mod Entering
 pub mod Hosts
 pub mod Limited

@@ -10,25 +10,27 @@ use Rattle.tcl_core.specs.Entries.Entry.{SetCountLimit}
 use Rattle.tcl_core.specs.Laws.{IsLowering, KeepsTop, Lowers}
 use Rattle.tcl_core.specs.Lives.{Lives, idle, never}
 use Rattle.tcl_core.specs.Paths.{Place, strip, rise_to}
-use Rattle.tcl_core.specs.Programs.{Act, Deed, Prog, Table, Wait, Wrap, blocked, by_limit, changing, closes, decide, dropping, dropping_at, is_deep, is_spent, making, metered, opens, spot}
+use Rattle.tcl_core.specs.Programs.{Act, Deed, Prog, Table, Wait, Wrap, blocked, by_limit, changing, closes, decide, dropping, is_deep, is_spent, making, metered, opens, spot}
 use Rattle.tcl_core.specs.Programs.Act.{Look, Change, Charge, Limit, LimitDepth, Make, Drop}
 use Rattle.tcl_core.specs.Programs.Next.{On, Off}
 use Rattle.tcl_core.specs.Programs.Prog.{done, exit, act, go, inside, call, wait}
 use Rattle.tcl_core.specs.Programs.Wrap.{Deeper, Framed}
 use Rattle.tcl_core.specs.Rules.{Derives}
-use Rattle.tcl_core.specs.Rules.Derives.{completed, exited, acted, refused, unheard, went, passed, halted, wrapped, wrapped_passed, wrapped_halted, too_deep, shut, unheard_inside, called, called_passed, called_halted, unreached, called_out, unanswered, unfit, answered, heard, answered_passed, entered, entered_halted, entered_exiting, born, fallen}
-use Rattle.tcl_core.specs.Runs.{Ending, Exits, Step, World, entering, height_of, reached, where_stands}
+use Rattle.tcl_core.specs.Rules.Derives.{completed, exited, acted, refused, unheard, went, passed, halted, wrapped, wrapped_passed, wrapped_halted, too_deep, shut, unheard_inside, called, called_passed, called_halted, unreached, called_out, unanswered, unfit, answered, heard, missed, answered_passed, entered, entered_halted, entered_exiting, born, fallen, unfound}
+use Rattle.tcl_core.specs.Runs.{Ending, Exits, Step, World, height_of, reached, where_stands}
 use Rattle.tcl_core.specs.Trees.{Event, Grants, Move, Node, Tree, What, asked, at, at_top, where_none}
 use Rattle.tcl_core.specs.Trees.Grant.{Allow, Deny}
 use Rattle.tcl_core.specs.Trees.Grants.{Listed, Budget}
 use Rattle.tcl_core.specs.Trees.Move.{Born, Fall, Enter, Come}
-use Rattle.tcl_core.specs.Trees.What.{Seen, Charged, Refused, Nested, Limited, DepthLimited, Made, Dropped, Out, In, Back}
+use Rattle.tcl_core.specs.Trees.What.{Seen, Charged, Refused, Nested, Limited, DepthLimited, Made, Dropped, Out, In, Back, Unfound}
 use Rattle.tcl_core.specs.Views.{inside_of, kept, moves_of, view}
 use Rattle.tcl_core.proofs.Conclusions.{lives_within}
 use Rattle.tcl_core.proofs.PathLaws.{Some-inj, not_both, strip-sound, strip_own}
 use Rattle.tcl_core.proofs.RuleLaws.{runs_derived}
 use Rattle.tcl_core.proofs.Standing.{held_left}
+use Rattle.tcl_core.proofs.Callers.{or_lost_all}
 use Rattle.tcl_core.proofs.Halts.{exits_so}
+use Rattle.tcl_core.proofs.TreeLaws.{any_close}
 use Rattle.tcl_isolation.specs.Limits.{AreLowering, AtMost, Lowering}
 use Rattle.tcl_run_laws.specs.Limits.{AsksBelow, KeepTops, LimitsBelow, sets_steps}
 
@@ -88,6 +90,7 @@ module _ {O I : Type 0} (prog : Table O I) (fine : I → Bool) (all : Rules fine
   lowering_left p (Back h y) ms a = lowering_where (rise_to h p) (Come y) ms (λ j. j) a
   lowering_left p (Made o s) ms a = lowering_top p (Born o s) ms (λ j. j) a
   lowering_left p Dropped ms a = lowering_top p Fall ms (λ j. j) a
+  lowering_left p (Unfound t i c) ms a = a.1
   lowering_left p _ ms a = a
 
   -- what is kept of the world
@@ -121,11 +124,7 @@ module _ {O I : Type 0} (prog : Table O I) (fine : I → Bool) (all : Rules fine
 
   dropping_fine : (p : Place) (name : List ℕ) (n : Option (Node O)) → Fine (spot p (dropping name n).0) (dropping name n).1
   dropping_fine p name None = tt
-  dropping_fine p name (Some n) = by n.depth
-    where
-      by : (d : ℕ) → Fine (spot p (dropping_at {O = O} name d).0) (dropping_at {O = O} name d).1
-      by zero = tt
-      by (suc d) = tt
+  dropping_fine p name (Some n) = tt
 
   -- the limit that is asked for may be set at p
   abbrev Licence : Option Entry → Place → Type 0
@@ -144,10 +143,8 @@ module _ {O I : Type 0} (prog : Table O I) (fine : I → Bool) (all : Rules fine
   opens_fine Deeper T p gs x e = metered_fine p Depth Nested (blocked is_deep T p) gs x tt e
   opens_fine (Framed o back) T p gs x e = deed_of p (changing o (T p)) x (changing_fine p o (T p)) e
 
-  closes_fine : (p : Place) (b : Wrap O) (n : Option (Node O)) → Fine p (closes b n)
-  closes_fine p Deeper n = tt
-  closes_fine p (Framed o back) None = tt
-  closes_fine p (Framed o back) (Some n) = tt
+  closes_fine : (p : Place) (b : Wrap O) (m n : Option (Node O)) → Fine p (closes b m n)
+  closes_fine p b m n = any_close (Fine p) b m n tt tt (λ o. tt)
 
   pub record Kept (w v : World O) : Type 0 where
     pub clean : AreFine v.tape → AreFine w.tape
@@ -162,28 +159,20 @@ module _ {O I : Type 0} (prog : Table O I) (fine : I → Bool) (all : Rules fine
   then_kept : (w u v : World O) → Kept w u → Kept u v → Kept w v
   then_kept w u v a b = record { clean = λ c. a.clean (b.clean c); good = b.good }
 
-  fit_entry : (n : Option (Node O)) (i : Entry) → sets_steps i ≡ false → Ruled fine None (entering prog n i)
-  fit_entry None i f = tt
-  fit_entry (Some n) i f = all.entries i f
-
-  fit_limit : (n : Option (Node O)) (i : Entry) → sets_steps i ≡ true → Ruled fine (Some i) (entering prog n i)
-  fit_limit None i f = tt
-  fit_limit (Some n) i f = all.limiting i f
-
   nobody : (p : Place) → Licence None p
   nobody p = λ y f. absurd f
 
   -- a program that may set the limit that it is licensed to
-  abbrev Licensed : Place → Option (Node O) → Entry → Type 0
-  Licensed t n i = (a : Option Entry) × Licence a t × Ruled fine a (entering prog n i)
+  abbrev Licensed : Place → Entry → Type 0
+  Licensed t i = (a : Option Entry) × Licence a t × Ruled fine a (prog.entry i)
 
   -- an entry that is handed in, and the limit that it asks for
-  fit_move : (n : Option (Node O)) (t : Place) (i : Entry) → Lowering l t i → Licensed t n i
-  fit_move n t i f = by (sets_steps i) refl
+  fit_move : (t : Place) (i : Entry) → Lowering l t i → Licensed t i
+  fit_move t i f = by (sets_steps i) refl
     where
-      by : (b : Bool) → sets_steps i ≡ b → Licensed t n i
-      by false e = (None, nobody t, fit_entry n i e)
-      by true e = (Some i, (λ y g top. subst (λ q. Lowering l q (SetCountLimit y)) top (subst (λ j. Lowering l t j) g f)), fit_limit n i e)
+      by : (b : Bool) → sets_steps i ≡ b → Licensed t i
+      by false e = (None, nobody t, all.entries i e)
+      by true e = (Some i, (λ y g top. subst (λ q. Lowering l q (SetCountLimit y)) top (subst (λ j. Lowering l t j) g f)), all.limiting i e)
 
   -- the interpreter that a call goes to isn't the top, where it goes down by a name
   below_top : (o : Option (Node O)) (a : Place) (name : List ℕ) (down : Place) (t : Place) → where_stands o (a ++ name ∷ down) ≡ Some t → t ≡ [] → Prim.⊥
@@ -191,13 +180,13 @@ module _ {O I : Type 0} (prog : Table O I) (fine : I → Bool) (all : Rules fine
   below_top (Some n) a name down t e f = no_top a name down (Some-inj t e ∙ f)
 
   -- an entry of a call within the tree
-  fit_call : (T : Tree O) (n : Option (Node O)) (a : Place) (down : Place) (t : Place) (i : Entry) → AsksBelow down i → reached T a down ≡ Some t → Licensed t n i
-  fit_call T n a [] t i f there = (None, nobody t, fit_entry n i f)
-  fit_call T n a (name ∷ down) t i f there = by (sets_steps i) refl
+  fit_call : (T : Tree O) (a : Place) (down : Place) (t : Place) (i : Entry) → AsksBelow down i → reached T a down ≡ Some t → Licensed t i
+  fit_call T a [] t i f there = (None, nobody t, all.entries i f)
+  fit_call T a (name ∷ down) t i f there = by (sets_steps i) refl
     where
-      by : (b : Bool) → sets_steps i ≡ b → Licensed t n i
-      by false e = (None, nobody t, fit_entry n i e)
-      by true e = (Some i, (λ y g top. absurd (below_top (T (a ++ name ∷ down)) a name down t there top)), fit_limit n i e)
+      by : (b : Bool) → sets_steps i ≡ b → Licensed t i
+      by false e = (None, nobody t, all.entries i e)
+      by true e = (Some i, (λ y g top. absurd (below_top (T (a ++ name ∷ down)) a name down t there top)), all.limiting i e)
 
   -- the entry that is read
   entry_read : (w : World O) (t : Place) (i : Entry) (u : World O) → Step w t (In None i) u → Good w → Lowering l t i
@@ -225,12 +214,12 @@ module _ {O I : Type 0} (prog : Table O I) (fine : I → Bool) (all : Rules fine
   keep a0 (wrapped w p b i k x inner left closed v y e j on s a t d) lic f g =
       let l = opens_fine b w.tree p w.grants x j in
       let m = keep None a (nobody _) (all.programs i f.0) (good_step w _ x.1 inner l s g) in
-      let n = closes_fine p b (left.tree p) in
+      let n = closes_fine p b (inner.tree p) (left.tree p) in
       step_kept w _ x.1 inner v l s (then_kept inner left v m (step_kept left p _ closed v n t (keep a0 d lic (f.1 y) (good_step left p _ closed n t m.good))))
   keep a0 (wrapped_passed w p b i k x inner left closed r q j on s a t) lic f g =
       let l = opens_fine b w.tree p w.grants x j in
       let m = keep None a (nobody _) (all.programs i f.0) (good_step w _ x.1 inner l s g) in
-      let n = closes_fine p b (left.tree p) in
+      let n = closes_fine p b (inner.tree p) (left.tree p) in
       step_kept w _ x.1 inner closed l s (then_kept inner left closed m (step_kept left p _ closed closed n t (here closed (good_step left p _ closed n t m.good))))
   keep a0 (wrapped_halted w p b i k x inner left j on s a) lic f g =
       let l = opens_fine b w.tree p w.grants x j in
@@ -245,42 +234,44 @@ module _ {O I : Type 0} (prog : Table O I) (fine : I → Bool) (all : Rules fine
   keep a0 (called w p None down i lost k a t out inner left told back v r y e z s1 j s2 x s3 so s4 b) lic f g = absurd (not_both refl z)
   keep a0 (called w p (Some h) down i lost k a t out inner left told back v r y e z s1 j s2 x s3 so s4 b) lic f g =
       let g1 = good_step w p _ out tt s1 g in
-      let m = (let y = fit_call out.tree (out.tree t) a down t i f.0 j in keep y.0 x y.1 y.2) (good_step out t _ inner tt s2 g1) in
+      let m = (let y = fit_call out.tree a down t i f.0 j in keep y.0 x y.1 y.2) (good_step out t _ inner tt s2 g1) in
       let g3 = good_step left t _ told tt s3 m.good in
       step_kept w p _ out v tt s1 (step_kept out t _ inner v tt s2 (then_kept inner left v m (step_kept left t _ told v tt s3 (step_kept told p _ back v tt s4 (keep a0 b lic (f.1 _) (good_step told p _ back tt s4 g3))))))
   keep a0 (called_passed w p None down i lost k a t out inner left told back r z s1 j s2 x s3 q s4) lic f g = absurd (not_both refl z)
   keep a0 (called_passed w p (Some h) down i lost k a t out inner left told back r z s1 j s2 x s3 q s4) lic f g =
       let g1 = good_step w p _ out tt s1 g in
-      let m = (let y = fit_call out.tree (out.tree t) a down t i f.0 j in keep y.0 x y.1 y.2) (good_step out t _ inner tt s2 g1) in
+      let m = (let y = fit_call out.tree a down t i f.0 j in keep y.0 x y.1 y.2) (good_step out t _ inner tt s2 g1) in
       let g3 = good_step left t _ told tt s3 m.good in
       step_kept w p _ out back tt s1 (step_kept out t _ inner back tt s2 (then_kept inner left back m (step_kept left t _ told back tt s3 (step_kept told p _ back back tt s4 (here back (good_step told p _ back tt s4 g3))))))
   keep a0 (called_halted w p None down i lost k a t out inner left z s1 j s2 x) lic f g = absurd (not_both refl z)
   keep a0 (called_halted w p (Some h) down i lost k a t out inner left z s1 j s2 x) lic f g =
       let g1 = good_step w p _ out tt s1 g in
-      step_kept w p _ out left tt s1 (step_kept out t _ inner left tt s2 ((let y = fit_call out.tree (out.tree t) a down t i f.0 j in keep y.0 x y.1 y.2) (good_step out t _ inner tt s2 g1)))
+      step_kept w p _ out left tt s1 (step_kept out t _ inner left tt s2 ((let y = fit_call out.tree a down t i f.0 j in keep y.0 x y.1 y.2) (good_step out t _ inner tt s2 g1)))
   keep a0 (unreached w p None down i lost k a out back v e z s1 j s2 x) lic f g = absurd (not_both refl z)
   keep a0 (unreached w p (Some h) down i lost k a out back v e z s1 j s2 x) lic f g =
       let g1 = good_step w p _ out tt s1 g in
       step_kept w p _ out v tt s1 (step_kept out p _ back v tt s2 (keep a0 x lic (f.1 _) (good_step out p _ back tt s2 g1)))
   keep a0 (called_out w p h down i lost k u v e z s a) lic f g =
       let l : Fine p (Out h down i) = tt in
-      step_kept w p _ u v l s (keep a0 a lic f.1 (good_step w p _ u l s g))
+      step_kept w p _ u v l s (keep a0 a lic (or_lost_all (Ruled fine a0) lost k f.1) (good_step w p _ u l s g))
   keep a0 (unanswered w p s k j m t) lic f g = here w g
   keep a0 (unfit w p s k m ms j l n t) lic f g = here w g
   keep a0 (answered w p s k y u v e j l t a) lic f g = step_kept w p _ u v tt t (keep a0 a lic (f _) (good_step w p _ u tt t g))
   keep a0 (heard w p s k y u v e j l t a) lic f g = step_kept w p _ u v tt t (keep a0 a lic (f _) (good_step w p _ u tt t g))
+  keep a0 (missed w p s k u v e j l t a) lic f g = step_kept w p _ u v tt t (keep a0 a lic (f _) (good_step w p _ u tt t g))
   keep a0 (answered_passed w p s k r u q j l t) lic f g = step_kept w p _ u u tt t (here u (good_step w p _ u tt t g))
-  keep a0 (entered w p s k t i inner left told v r e j s1 a s2 n b) lic f g =
-      let m = (let y = fit_move (w.tree t) t i (entry_read w t i inner s1 g) in keep y.0 a y.1 y.2) (good_step w t _ inner tt s1 g) in
+  keep a0 (entered w p s k t i inner left told v r e j there s1 a s2 n b) lic f g =
+      let m = (let y = fit_move t i (entry_read w t i inner s1 g) in keep y.0 a y.1 y.2) (good_step w t _ inner tt s1 g) in
       step_kept w t _ inner v tt s1 (then_kept inner left v m (step_kept left t _ told v tt s2 (keep a0 b lic f (good_step left t _ told tt s2 m.good))))
-  keep a0 (entered_halted w p s k t i inner left j s1 a) lic f g =
-      step_kept w t _ inner left tt s1 ((let y = fit_move (w.tree t) t i (entry_read w t i inner s1 g) in keep y.0 a y.1 y.2) (good_step w t _ inner tt s1 g))
-  keep a0 (entered_exiting w p s k t i inner left told v n e j s1 a s2 b) lic f g =
-      let m = (let y = fit_move (w.tree t) t i (entry_read w t i inner s1 g) in keep y.0 a y.1 y.2) (good_step w t _ inner tt s1 g) in
+  keep a0 (entered_halted w p s k t i inner left j there s1 a) lic f g =
+      step_kept w t _ inner left tt s1 ((let y = fit_move t i (entry_read w t i inner s1 g) in keep y.0 a y.1 y.2) (good_step w t _ inner tt s1 g))
+  keep a0 (entered_exiting w p s k t i inner left told v n e j there s1 a s2 b) lic f g =
+      let m = (let y = fit_move t i (entry_read w t i inner s1 g) in keep y.0 a y.1 y.2) (good_step w t _ inner tt s1 g) in
       step_kept w t _ inner v tt s1 (then_kept inner left v m (step_kept left t _ told v tt s2 (exits_kept told p s n told.moves v e b (good_step left t _ told tt s2 m.good))))
   keep a0 (born w p s k o b u v e j t a) lic f g =
       let h : KeepsTop (Born o b ∷ u.moves) = subst KeepsTop t.moves g.1 in
       absurd h
+  keep a0 (unfound w p s k t i u v e j there z a) lic f g = step_kept w [] _ u v tt z (keep a0 a lic f (good_step w [] _ u tt z g))
   keep a0 (fallen w p s k u v e j t a) lic f g = step_kept w [] _ u v tt t (keep a0 a lic f (good_step w [] _ u tt t g))
 
   -- ## In the subtree at c, and at c itself

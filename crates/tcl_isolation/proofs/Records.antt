@@ -3,22 +3,63 @@ use Rattle.std.proofs.Common.{◌≡◌, ◌⊎◌, inl, inr, ℕ, nat_lt, List,
 use Rattle.tcl_core.specs.Endings.{Reply}
 use Rattle.tcl_core.specs.Endings.Reply.{Completed, Stop, Exit, Cut}
 use Rattle.tcl_core.specs.Entries.{Entry}
-use Rattle.tcl_core.specs.Entries.Answer.{Replied, Heard}
+use Rattle.tcl_core.specs.Entries.Answer.{Replied, Heard, Nobody}
 use Rattle.tcl_core.specs.Laws.{IsUnended, KeepsTop, Unended}
 use Rattle.tcl_core.specs.Lives.{Outcome, begun, begun_at, ended, ended_at, last_of, one_more, outcome_at, outcome_of, outs_of, put, told}
 use Rattle.tcl_core.specs.Lives.Outcome.{Finished}
-use Rattle.tcl_core.specs.Paths.{Place, rise_to}
+use Rattle.tcl_core.specs.Paths.{Place, rise_to, strip}
 use Rattle.tcl_core.specs.Execution.{event}
-use Rattle.tcl_core.specs.Trees.{Event, Move, What, asked, at_top, where_none}
+use Rattle.tcl_core.specs.Trees.{Event, Move, Tree, What, asked, at_top, effect, where_none}
 use Rattle.tcl_core.specs.Trees.Move.{Enter, Come, Born, Fall}
-use Rattle.tcl_core.specs.Trees.What.{Out, In, Done, Back, Made, Dropped}
-use Rattle.tcl_core.specs.Views.{moves_of}
+use Rattle.tcl_core.specs.Trees.What.{Out, In, Done, Back, Made, Dropped, Unfound}
+use Rattle.tcl_core.specs.Views.{from_above, kept, moves_of, view}
 use Rattle.tcl_core.proofs.PathLaws.{not_both}
 use Rattle.tcl_core.proofs.Reacting.{IsLasting, Lasting}
 use Rattle.tcl_reactions.specs.Laws.{outcome_so_far, waits_if}
 use Rattle.tcl_recorder.specs.Boundary.{past, past_the_top}
+use Rattle.tcl_recorder.proofs.Meeting.{AreMet, IsMet}
 
 module _ {O : Type 0} where
+  -- ## Entries that find nobody
+
+  -- no entry finds nobody
+  abbrev pub IsFound : What O → Type 0
+  IsFound (Unfound t i c) = Prim.⊥
+  IsFound x = Unit {0}
+
+  abbrev pub AreFound : List (Event O) → Type 0
+  AreFound [] = Unit {0}
+  AreFound (ev ∷ τ) = IsFound ev.what × AreFound τ
+
+  pub found_front : (σ τ : List (Event O)) → AreFound (σ ++ τ) → AreFound σ
+  found_front [] τ f = tt
+  found_front (ev ∷ σ) τ f = (f.0, found_front σ τ f.1)
+
+  pub found_back : (σ τ : List (Event O)) → AreFound (σ ++ τ) → AreFound τ
+  found_back [] τ f = f
+  found_back (ev ∷ σ) τ f = found_back σ τ f.1
+
+  pub found_append : (σ τ : List (Event O)) → AreFound σ → AreFound τ → AreFound (σ ++ τ)
+  found_append [] τ f g = g
+  found_append (ev ∷ σ) τ f g = (f.0, found_append σ τ f.1 g)
+
+  found_above : (b : Option Place) (x : What O) (τ : List (Event O)) → AreFound τ → AreFound (from_above b x τ)
+  found_above None x τ f = f
+  found_above (Some z) Dropped τ f = (tt, f)
+  found_above (Some z) x τ f = f
+
+  -- what is below the top of a run is none that finds nobody
+  found_one : (T : Tree O) (p : Place) (x : What O) (s b : Option Place) (τ : List (Event O)) → (p ≡ [] → s ≡ None) → IsMet T p x → AreFound τ → AreFound (kept s b x τ)
+  found_one T p x None b τ e m f = found_above b x τ f
+  found_one T p (Unfound t i c) (Some q) b τ e m f = absurd (not_both (e m) refl)
+  found_one T p x (Some q) b τ e m f = (tt, f)
+
+  pub found_below : (T : Tree O) (name : List ℕ) (c : Place) (τ : List (Event O)) → AreMet T τ → AreFound (view (name ∷ c) τ)
+  found_below T name c [] m = tt
+  found_below T name c (ev ∷ τ) m =
+      found_one T ev.place ev.what (strip (name ∷ c) ev.place) (strip ev.place (name ∷ c)) (view (name ∷ c) τ) (λ e. ap (strip (name ∷ c)) e) m.0
+      (found_below (effect ev.place ev.what T) name c τ m.1)
+
   -- ## Each happening is recorded, or isn't
 
   abbrev pub Kind : Place → What O → Type 0
@@ -28,12 +69,13 @@ module _ {O : Type 0} where
   put_kind None p x = inr (λ τ. refl)
   put_kind (Some a) p x = inl (λ τ. refl)
 
-  pub kind : (p : Place) (x : What O) → Kind p x
-  kind p (Out h down i) = put_kind (rise_to h p) p (Out h down i)
-  kind p (Back h a) = put_kind (rise_to h p) p (Back h a)
-  kind p (In h i) = put_kind (rise_to h p) p (In h i)
-  kind p (Done h r) = put_kind (rise_to h p) p (Done h r)
-  kind p _ = inl (λ τ. refl)
+  pub kind : (p : Place) (x : What O) → IsFound x → Kind p x
+  kind p (Out h down i) f = put_kind (rise_to h p) p (Out h down i)
+  kind p (Back h a) f = put_kind (rise_to h p) p (Back h a)
+  kind p (In h i) f = put_kind (rise_to h p) p (In h i)
+  kind p (Done h r) f = put_kind (rise_to h p) p (Done h r)
+  kind p (Unfound t i c) f = absurd f
+  kind p _ f = inl (λ τ. refl)
 
   -- what is said of each of some happenings is said of each that is recorded
   pub record Pointwise (P : Place → What O → Type 0) (All : List (Event O) → Type 0) : Type 0 where
@@ -42,9 +84,9 @@ module _ {O : Type 0} where
     pub first : (ev : Event O) (τ : List (Event O)) → All (ev ∷ τ) → P ev.place ev.what
     pub later : (ev : Event O) (τ : List (Event O)) → All (ev ∷ τ) → All τ
 
-  pub all_past : (P : Place → What O → Type 0) (All : List (Event O) → Type 0) → Pointwise P All → (σ : List (Event O)) → All σ → All (past_the_top σ)
-  all_past P All f [] a = a
-  all_past P All f (ev ∷ σ) a = by (kind ev.place ev.what) (all_past P All f σ (f.later ev σ a))
+  pub all_past : (P : Place → What O → Type 0) (All : List (Event O) → Type 0) → Pointwise P All → (σ : List (Event O)) → AreFound σ → All σ → All (past_the_top σ)
+  all_past P All f [] n a = a
+  all_past P All f (ev ∷ σ) n a = by (kind ev.place ev.what n.0) (all_past P All f σ n.1 (f.later ev σ a))
     where
       by : Kind ev.place ev.what → All (past_the_top σ) → All (past ev.place ev.what (past_the_top σ))
       by (inl e) g = subst All (sym (e (past_the_top σ))) g
@@ -64,9 +106,9 @@ module _ {O : Type 0} where
   no_parts [] (y ∷ b) e = cc
   no_parts (y ∷ a) b e = cc
 
-  pub parts : (σ a b : List (Event O)) → past_the_top σ ≡ a ++ b → Parts σ a b
-  parts [] a b e = no_parts a b e
-  parts (ev ∷ σ) a b e = by (kind ev.place ev.what) a (λ l g. parts σ l b g) e
+  pub parts : (σ a b : List (Event O)) → AreFound σ → past_the_top σ ≡ a ++ b → Parts σ a b
+  parts [] a b n e = no_parts a b e
+  parts (ev ∷ σ) a b n e = by (kind ev.place ev.what n.0) a (λ l g. parts σ l b n.1 g) e
     where
       unseen : ((τ : List (Event O)) → past ev.place ev.what τ ≡ τ) → (a : List (Event O)) → Parts σ a b → Parts (ev ∷ σ) a b
       unseen f a g = record { front = ev ∷ g.front; back = g.back; whole = ap (λ l. ev ∷ l) g.whole; fronts = f (past_the_top g.front) ∙ g.fronts; backs = g.backs }
@@ -92,10 +134,10 @@ module _ {O : Type 0} where
     pub backs : past_the_top back ≡ b
     pub passes : past ev.place ev.what [] ≡ ev ∷ []
 
-  pub parts_at : (σ a : List (Event O)) (ev : Event O) (b : List (Event O)) → past_the_top σ ≡ a ++ ev ∷ b → PartsAt σ a ev b
-  parts_at [] [] ev b e = cc
-  parts_at [] (y ∷ a) ev b e = cc
-  parts_at (x ∷ σ) a ev b e = by (kind x.place x.what) a (λ l g. parts_at σ l ev b g) e
+  pub parts_at : (σ a : List (Event O)) (ev : Event O) (b : List (Event O)) → AreFound σ → past_the_top σ ≡ a ++ ev ∷ b → PartsAt σ a ev b
+  parts_at [] [] ev b n e = cc
+  parts_at [] (y ∷ a) ev b n e = cc
+  parts_at (x ∷ σ) a ev b n e = by (kind x.place x.what n.0) a (λ l g. parts_at σ l ev b n.1 g) e
     where
       unseen : ((τ : List (Event O)) → past x.place x.what τ ≡ τ) → (a : List (Event O)) → PartsAt σ a ev b → PartsAt (x ∷ σ) a ev b
       unseen f a g = record { front = x ∷ g.front; back = g.back; whole = ap (λ l. x ∷ l) g.whole; fronts = f (past_the_top g.front) ∙ g.fronts; backs = g.backs; passes = g.passes }
@@ -133,6 +175,7 @@ module _ {O : Type 0} where
   unended_one p (Out h down i) σ τ g f = (tt, g (put_later (rise_to h p) p (Out h down i) σ f))
   unended_one p (In h i) σ τ g f = (tt, g (put_later (rise_to h p) p (In h i) σ f))
   unended_one p (Back h (Heard y)) σ τ g f = (tt, g (put_later (rise_to h p) p (Back h (Heard y)) σ f))
+  unended_one p (Back h Nobody) σ τ g f = (tt, g (put_later (rise_to h p) p (Back h Nobody) σ f))
   unended_one p (Back h (Replied (Completed c))) σ τ g f = (tt, g (put_later (rise_to h p) p (Back h (Replied (Completed c))) σ f))
   unended_one p (Back h (Replied (Stop n m))) σ τ g f = (tt, g (put_later (rise_to h p) p (Back h (Replied (Stop n m))) σ f))
   unended_one p (Back h (Replied (Exit n))) σ τ g f = (tt, g (put_later (rise_to h p) p (Back h (Replied (Exit n))) σ f))
@@ -141,6 +184,7 @@ module _ {O : Type 0} where
   unended_one p (Done h (Stop n m)) σ τ g f = (tt, g (put_later (rise_to h p) p (Done h (Stop n m)) σ f))
   unended_one p (Done h (Exit n)) σ τ g f = (tt, g (put_later (rise_to h p) p (Done h (Exit n)) σ f))
   unended_one p (Done h (Cut c)) σ τ g f = unended_cut (rise_to h p) (rise_to h p) p (Done h (Cut c)) σ τ refl refl g f
+  unended_one p (Unfound t i c) σ τ g f = (tt, g f.1.1)
   unended_one p _ σ τ g f = (tt, g f)
 
   pub unended : (σ : List (Event O)) → IsUnended (past_the_top σ) → IsUnended σ
@@ -163,6 +207,7 @@ module _ {O : Type 0} where
   outcome_one p (Back h a) σ τ x g = outcome_put (rise_to h p) p (Back h a) x σ τ refl g
   outcome_one p (In h i) σ τ x g = outcome_put (rise_to h p) p (In h i) x σ τ refl g
   outcome_one p (Done h r) σ τ x g = outcome_done (rise_to h p) p h r x σ τ refl g
+  outcome_one p (Unfound t i c) σ τ x g = g Finished
   outcome_one p _ σ τ x g = g x
 
   pub outcome_past : (σ : List (Event O)) (x : Outcome) → outcome_of (past_the_top σ) x ≡ outcome_of σ x
@@ -179,16 +224,17 @@ module _ {O : Type 0} where
   begun_in None p h i σ n e g = ap (one_more (rise_to h p)) g
   begun_in (Some a) p h i σ n e g = g ∙ sym (ap (λ o. one_more o n) e)
 
-  begun_one : (p : Place) (y : What O) (σ : List (Event O)) (n : ℕ) → begun σ ≡ n → begun (past p y σ) ≡ begun_at p y n
-  begun_one p (Out h down i) σ n g = begun_silent (rise_to h p) p (Out h down i) σ n (λ k. refl) g
-  begun_one p (Back h a) σ n g = begun_silent (rise_to h p) p (Back h a) σ n (λ k. refl) g
-  begun_one p (Done h r) σ n g = begun_silent (rise_to h p) p (Done h r) σ n (λ k. refl) g
-  begun_one p (In h i) σ n g = begun_in (rise_to h p) p h i σ n refl g
-  begun_one p _ σ n g = g
+  begun_one : (p : Place) (y : What O) (σ : List (Event O)) (n : ℕ) → IsFound y → begun σ ≡ n → begun (past p y σ) ≡ begun_at p y n
+  begun_one p (Unfound t i c) σ n f g = absurd f
+  begun_one p (Out h down i) σ n f g = begun_silent (rise_to h p) p (Out h down i) σ n (λ k. refl) g
+  begun_one p (Back h a) σ n f g = begun_silent (rise_to h p) p (Back h a) σ n (λ k. refl) g
+  begun_one p (Done h r) σ n f g = begun_silent (rise_to h p) p (Done h r) σ n (λ k. refl) g
+  begun_one p (In h i) σ n f g = begun_in (rise_to h p) p h i σ n refl g
+  begun_one p _ σ n f g = g
 
-  pub begun_past : (σ : List (Event O)) → begun (past_the_top σ) ≡ begun σ
-  begun_past [] = refl
-  begun_past (ev ∷ σ) = begun_one ev.place ev.what (past_the_top σ) (begun σ) (begun_past σ)
+  pub begun_past : (σ : List (Event O)) → AreFound σ → begun (past_the_top σ) ≡ begun σ
+  begun_past [] f = refl
+  begun_past (ev ∷ σ) f = begun_one ev.place ev.what (past_the_top σ) (begun σ) f.0 (begun_past σ f.1)
 
   ended_silent : (o : Option Place) (p : Place) (x : What O) (σ : List (Event O)) (n : ℕ) → ((k : ℕ) → ended_at p x k ≡ k) → ended σ ≡ n → ended (put o p x σ) ≡ n
   ended_silent None p x σ n f g = f (ended σ) ∙ g
@@ -198,19 +244,20 @@ module _ {O : Type 0} where
   ended_done None p h r σ n e g = ap (one_more (rise_to h p)) g
   ended_done (Some a) p h r σ n e g = g ∙ sym (ap (λ o. one_more o n) e)
 
-  ended_one : (p : Place) (y : What O) (σ : List (Event O)) (n : ℕ) → ended σ ≡ n → ended (past p y σ) ≡ ended_at p y n
-  ended_one p (Out h down i) σ n g = ended_silent (rise_to h p) p (Out h down i) σ n (λ k. refl) g
-  ended_one p (Back h a) σ n g = ended_silent (rise_to h p) p (Back h a) σ n (λ k. refl) g
-  ended_one p (In h i) σ n g = ended_silent (rise_to h p) p (In h i) σ n (λ k. refl) g
-  ended_one p (Done h r) σ n g = ended_done (rise_to h p) p h r σ n refl g
-  ended_one p _ σ n g = g
+  ended_one : (p : Place) (y : What O) (σ : List (Event O)) (n : ℕ) → IsFound y → ended σ ≡ n → ended (past p y σ) ≡ ended_at p y n
+  ended_one p (Unfound t i c) σ n f g = absurd f
+  ended_one p (Out h down i) σ n f g = ended_silent (rise_to h p) p (Out h down i) σ n (λ k. refl) g
+  ended_one p (Back h a) σ n f g = ended_silent (rise_to h p) p (Back h a) σ n (λ k. refl) g
+  ended_one p (In h i) σ n f g = ended_silent (rise_to h p) p (In h i) σ n (λ k. refl) g
+  ended_one p (Done h r) σ n f g = ended_done (rise_to h p) p h r σ n refl g
+  ended_one p _ σ n f g = g
 
-  pub ended_past : (σ : List (Event O)) → ended (past_the_top σ) ≡ ended σ
-  ended_past [] = refl
-  ended_past (ev ∷ σ) = ended_one ev.place ev.what (past_the_top σ) (ended σ) (ended_past σ)
+  pub ended_past : (σ : List (Event O)) → AreFound σ → ended (past_the_top σ) ≡ ended σ
+  ended_past [] f = refl
+  ended_past (ev ∷ σ) f = ended_one ev.place ev.what (past_the_top σ) (ended σ) f.0 (ended_past σ f.1)
 
-  pub so_far_past : (σ : List (Event O)) → outcome_so_far (past_the_top σ) ≡ outcome_so_far σ
-  so_far_past σ = λ i. waits_if (nat_lt (ended_past σ i) (begun_past σ i)) (outcome_past σ Finished i)
+  pub so_far_past : (σ : List (Event O)) → AreFound σ → outcome_so_far (past_the_top σ) ≡ outcome_so_far σ
+  so_far_past σ f = λ i. waits_if (nat_lt (ended_past σ f i) (begun_past σ f i)) (outcome_past σ Finished i)
 
   -- ## Moves of a tree that is neither made nor dropped
 
@@ -263,6 +310,7 @@ module _ {O : Type 0} where
   moves_one p (Back h a) σ τ f g = moves_put (rise_to h p) (rise_to h p) p (Back h a) (Come a) σ τ refl (λ l. refl) g
   moves_one p (Made o s) σ τ f g = g ∙ sym (moves_life p (Born o s) (moves_of τ) f)
   moves_one p Dropped σ τ f g = g ∙ sym (moves_life p Fall (moves_of τ) f)
+  moves_one p (Unfound t i c) σ τ f g = ap (λ l. Enter t i ∷ l) g
   moves_one p _ σ τ f g = g
 
   pub moves_past : (σ : List (Event O)) → IsLasting σ → moves_of (past_the_top σ) ≡ moves_of σ
@@ -282,6 +330,7 @@ module _ {O : Type 0} where
   outs_one p (Done h r) σ τ g = outs_put (rise_to h p) (rise_to h p) p (Done h r) σ τ refl (λ l. refl) g
   outs_one p (In h i) σ τ g = outs_silent (rise_to h p) p (In h i) σ τ (λ l. refl) g
   outs_one p (Back h a) σ τ g = outs_silent (rise_to h p) p (Back h a) σ τ (λ l. refl) g
+  outs_one p (Unfound t i c) σ τ g = ap (λ l. event t (Done None (Completed c)) ∷ l) g
   outs_one p _ σ τ g = g
 
   pub outs_past : (σ : List (Event O)) → outs_of (past_the_top σ) ≡ outs_of σ

@@ -17,7 +17,7 @@ use Rattle.tcl_isolation.specs.Limits.{AreLowering}
 use Rattle.tcl_isolation.specs.Visits.{IsBelowTheTop}
 use Rattle.tcl_isolation.proofs.Lowering.{Rules, lowering}
 use Rattle.tcl_isolation.proofs.Records.{Pointwise, all_past, keeps_top}
-use Rattle.tcl_isolation.proofs.Watching.{Watched, lasts, life, remains, same_moves, seen, stands, tape}
+use Rattle.tcl_isolation.proofs.Watching.{Watched, found, lasts, life, remains, same_moves, seen, stands, tape}
 
 asking : (O : Type 0) → Pointwise {O = O} (λ p x. IsNoRequest x) AsksNothing
 asking O = record { none = tt; more = λ ev τ f g. (f, g); first = λ ev τ f. f.0; later = λ ev τ f. f.1 }
@@ -34,7 +34,7 @@ module _ {O I S : Type 0} (goes : Tree O → S → Wait → Event O → S → Ty
       let free : AreFree exposes (moves_of (seen goes prog T V o z t i c crossings r w)) = subst (AreFree exposes) (same_moves goes prog T V o z t i c crossings r w a.0 f a.1) m in
       let none : AsksNothing (seen goes prog T V o z t i c crossings r w) =
       no_requests plain fine prog all c (before T (whole w)) (before V []) t i r w.visits refl refl (lasts goes prog T V o z t i c crossings r w a.0 f a.1) s a p free in
-      subst AsksNothing (sym w.recorded) (all_past (λ p x. IsNoRequest x) AsksNothing (asking O) (seen goes prog T V o z t i c crossings r w) none)
+      subst AsksNothing (sym w.recorded) (all_past (λ p x. IsNoRequest x) AsksNothing (asking O) (seen goes prog T V o z t i c crossings r w) (found goes prog T V o z t i c crossings r w f) none)
 
   abbrev SameLimits : Node O → Option (Node O) → Type 0
   SameLimits n o = (m : Node O) × (o ≡ Some m) × (m.limit ≡ n.limit) × (m.depth_limit ≡ n.depth_limit)

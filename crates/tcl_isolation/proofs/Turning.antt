@@ -1,6 +1,7 @@
 -- Where control goes, as the boundary tells it.
 use Rattle.std.proofs.Common.{◌≡◌, List, [], ◌∷◌, Option, Some, None, refl, sym, ◌∙◌, ap}
 use Rattle.tcl_core.specs.Endings.{Reply}
+use Rattle.tcl_core.specs.Endings.Reply.{Completed}
 use Rattle.tcl_core.specs.Entries.{Entry}
 use Rattle.tcl_core.specs.Laws.{NoLeaving, Turn, comes_in, goes_out, life_at, turn, turn_at}
 use Rattle.tcl_core.specs.Laws.Turn.{Enters, Leaves, Inside, Elsewhere}
@@ -8,10 +9,11 @@ use Rattle.tcl_core.specs.Lives.{outs_of, put, told}
 use Rattle.tcl_core.specs.Paths.{Path, Place, Height, rise_to, seen_height, strip}
 use Rattle.tcl_core.specs.Execution.{event}
 use Rattle.tcl_core.specs.Trees.{Event, Move, What, seen_answer, seen_reply}
-use Rattle.tcl_core.specs.Trees.What.{Out, In, Done, Back, Made, Dropped}
+use Rattle.tcl_core.specs.Trees.What.{Out, In, Done, Back, Made, Dropped, Unfound}
 use Rattle.tcl_core.specs.Views.{kept, moves_of, view}
 use Rattle.tcl_core.proofs.PathLaws.{seen_rise}
 use Rattle.tcl_recorder.specs.Boundary.{boundary, past_the_top}
+use Rattle.tcl_isolation.proofs.Records.{IsFound}
 use Rattle.tcl_isolation.proofs.Untouching.{unseen_above}
 
 not_leaving : (o : Option Place) → comes_in o ≡ Leaves → Prim.⊥
@@ -49,16 +51,17 @@ module _ {O : Type 0} where
   no_done None q h r m f = no_move m f
   no_done (Some a) q h r m f = no_move m f
 
-  enters_by : (s b : Option Place) (x : What O) (m : Move O) → moves_of (past_the_top (kept s b x [])) ≡ m ∷ [] → turn_at s x ≡ Enters
-  enters_by None b x m f = no_move m (sym (ap moves_of (unseen_above b x [])) ∙ f)
-  enters_by (Some q) b (In h i) m f = in_enters (rise_to h q) (rise_to (seen_height q h) q) q (In (seen_height q h) i) m (seen_rise q h) f
-  enters_by (Some q) b (Back h a) m f = in_enters (rise_to h q) (rise_to h q) q (Back h (seen_answer q a)) m refl f
-  enters_by (Some q) b (Out h down i) m f = no_out (rise_to h q) q h down i m f
-  enters_by (Some q) b (Done h r) m f = no_done (rise_to (seen_height q h) q) q (seen_height q h) (seen_reply q r) m f
-  enters_by (Some q) b _ m f = no_move m f
+  enters_by : (s b : Option Place) (x : What O) (m : Move O) → IsFound x → moves_of (past_the_top (kept s b x [])) ≡ m ∷ [] → turn_at s x ≡ Enters
+  enters_by None b x m n f = no_move m (sym (ap moves_of (unseen_above b x [])) ∙ f)
+  enters_by (Some q) b (Unfound t i c) m n f = absurd n
+  enters_by (Some q) b (In h i) m n f = in_enters (rise_to h q) (rise_to (seen_height q h) q) q (In (seen_height q h) i) m (seen_rise q h) f
+  enters_by (Some q) b (Back h a) m n f = in_enters (rise_to h q) (rise_to h q) q (Back h (seen_answer q a)) m refl f
+  enters_by (Some q) b (Out h down i) m n f = no_out (rise_to h q) q h down i m f
+  enters_by (Some q) b (Done h r) m n f = no_done (rise_to (seen_height q h) q) q (seen_height q h) (seen_reply q r) m f
+  enters_by (Some q) b _ m n f = no_move m f
 
-  pub enters : (c : Place) (ev : Event O) (m : Move O) → moves_of (boundary c (ev ∷ [])) ≡ m ∷ [] → turn c ev ≡ Enters
-  enters c ev m f = enters_by (strip c ev.place) (strip ev.place c) ev.what m f
+  pub enters : (c : Place) (ev : Event O) (m : Move O) → IsFound ev.what → moves_of (boundary c (ev ∷ [])) ≡ m ∷ [] → turn c ev ≡ Enters
+  enters c ev m n f = enters_by (strip c ev.place) (strip ev.place c) ev.what m n f
 
   -- ## What tells nothing doesn't leave
 
@@ -82,6 +85,7 @@ module _ {O : Type 0} where
   stays_by (Some q) b (Back h a) σ f = (not_leaving (rise_to h q), untold (rise_to h q) q (Back h (seen_answer q a)) (past_the_top σ) (λ τ. refl) f)
   stays_by (Some q) b (Made o s) σ f = (life_stays q, f)
   stays_by (Some q) b Dropped σ f = (life_stays q, f)
+  stays_by (Some q) b (Unfound t i c) σ f = no_event (event t (Done None (Completed c))) (outs_of (past_the_top σ)) f
   stays_by (Some q) b _ σ f = (inside_stays, f)
 
   pub stays : (c : Place) (τ : List (Event O)) → outs_of (boundary c τ) ≡ [] → NoLeaving c τ

@@ -1,10 +1,11 @@
 -- What a subtree by itself does with a part of its record.
 use Rattle.std.proofs.Common.{◌≡◌, ◌⊎◌, inl, inr, ℕ, ◌≤◌, ◌+◌, Bool, true, false, nat_lt, List, [], ◌∷◌, ◌++◌, Option, Some, None, length, refl, sym, ◌∙◌, ap, subst, arith, append_assoc, append-nil}
-use Rattle.tcl_core.specs.Endings.{Cause, Reply}
+use Rattle.tcl_core.specs.Endings.{Cause, Kind, Reply}
+use Rattle.tcl_core.specs.Endings.Kind.{Full, Gone}
 use Rattle.tcl_core.specs.Endings.Reply.{Completed, Stop, Exit, Cut}
 use Rattle.tcl_core.specs.Endings.Cause.{Above, Over}
 use Rattle.tcl_core.specs.Entries.{Answer, Entry}
-use Rattle.tcl_core.specs.Entries.Answer.{Replied, Heard}
+use Rattle.tcl_core.specs.Entries.Answer.{Replied, Heard, Nobody}
 use Rattle.tcl_core.specs.Execution.{before, event}
 use Rattle.tcl_core.specs.Laws.{IsUnended, ReadsMove, StopsByItself, after, comes_in, goes_out, life_at, turn_in}
 use Rattle.tcl_core.specs.Lives.{Lives, Outcome, React, begun, ended, idle, never, outcome_of, outs_of, put, told}
@@ -13,7 +14,7 @@ use Rattle.tcl_core.specs.Paths.{Path, Place, Height, rise_to, strip}
 use Rattle.tcl_core.specs.Programs.{Table, Wait}
 use Rattle.tcl_core.specs.Trees.{Event, Move, Node, Tree, What, asked, at, at_top, seen_answer, seen_reply, seen_what, stopped, where_none}
 use Rattle.tcl_core.specs.Trees.Move.{Enter, Come, Born, Fall}
-use Rattle.tcl_core.specs.Trees.What.{Out, In, Done, Back, Made, Dropped}
+use Rattle.tcl_core.specs.Trees.What.{Out, In, Done, Back, Made, Dropped, Unfound}
 use Rattle.tcl_core.specs.Programs.Prog.{wait}
 use Rattle.tcl_core.specs.Views.{from_above, inside_of, kept, moves_of, steps_of, view}
 use Rattle.tcl_core.proofs.Beginnings.{outs_append}
@@ -27,9 +28,10 @@ use Rattle.tcl_reactions.specs.Laws.{AreFromAbove, IsAnswer, outcome_so_far, wai
 use Rattle.tcl_reactions.proofs.OneOutcome.{one_outcome}
 use Rattle.tcl_reactions.proofs.Pauses.{reacts_before}
 use Rattle.tcl_recorder.specs.Boundary.{boundary, past, past_the_top}
+use Rattle.tcl_recorder.proofs.BoundaryLaws.{view_append}
 use Rattle.tcl_isolation.specs.Laws.{DoesJust, DoesUntil, IsEnd, IsMove, IsTold, StartsWith, Suffices}
 use Rattle.tcl_isolation.specs.Visits.{IsBelowTheTop, WatchedVisit, visit}
-use Rattle.tcl_isolation.proofs.Records.{PartsAt, lasting_front, moves_past, outs_past, parts_at, so_far_past, unended}
+use Rattle.tcl_isolation.proofs.Records.{AreFound, IsFound, PartsAt, found_front, lasting_front, moves_past, outs_past, parts_at, so_far_past, unended}
 use Rattle.tcl_isolation.proofs.Turning.{no_done, no_move, no_out}
 use Rattle.tcl_isolation.proofs.Untouching.{unseen_above}
 use Rattle.tcl_isolation.proofs.Watching as watching
@@ -76,8 +78,10 @@ module _ {O : Type 0} where
 
   answer_above : (q : Place) (a : Answer) (ms : List (Move O)) → AreFromAbove ms → AreFromAbove (Come (seen_answer q a) ∷ ms)
   answer_above q (Heard y) ms f = f
+  answer_above q Nobody ms f = f
   answer_above q (Replied (Completed c)) ms f = f
-  answer_above q (Replied (Stop n m)) ms f = stopped_above (nat_lt (length q) n) n m ms f
+  answer_above q (Replied (Stop n (Full m))) ms f = stopped_above (nat_lt (length q) n) n m ms f
+  answer_above q (Replied (Stop n Gone)) ms f = f
   answer_above q (Replied (Exit n)) ms f = f
   answer_above q (Replied (Cut c)) ms f = f
 
@@ -109,18 +113,6 @@ module _ {O : Type 0} where
   view_above c [] = tt
   view_above c (ev ∷ τ) = kept_above (strip c ev.place) (strip ev.place c) ev.what (view c τ) (view_above c τ)
 
-  -- ## The view of a part
-
-  kept_append : (s b : Option Place) (x : What O) (σ τ : List (Event O)) → kept s b x (σ ++ τ) ≡ kept s b x σ ++ τ
-  kept_append None None x σ τ = refl
-  kept_append None (Some z) Dropped σ τ = refl
-  kept_append None (Some z) _ σ τ = refl
-  kept_append (Some q) b x σ τ = refl
-
-  view_append : (c : Place) (σ τ : List (Event O)) → view c (σ ++ τ) ≡ view c σ ++ view c τ
-  view_append c [] τ = refl
-  view_append c (ev ∷ σ) τ = ap (kept (strip c ev.place) (strip ev.place c) ev.what) (view_append c σ τ) ∙ kept_append (strip c ev.place) (strip ev.place c) ev.what (view c σ) (view c τ)
-
   -- a happening that hands in a move is seen as one
   abbrev SeenAs : List (Event O) → Type 0
   SeenAs σ = (next : Event O) × (σ ≡ next ∷ []) × ReadsMove next
@@ -138,6 +130,7 @@ module _ {O : Type 0} where
   seen_reads q (Back h a) m f = back_seen (rise_to h q) q h a m refl f
   seen_reads q (Out h down i) m f = no_out (rise_to h q) q h down i m f
   seen_reads q (Done h r) m f = no_done (rise_to h q) q h r m f
+  seen_reads q (Unfound t i c) m f = λ ms. (Enter t i, refl)
   seen_reads q x m f = no_move m f
 
   kept_reads : (s b : Option Place) (x : What O) (m : Move O) → moves_of (past_the_top (kept s b x [])) ≡ m ∷ [] → SeenAs (kept s b x [])
@@ -189,18 +182,19 @@ module _ {O : Type 0} where
   life_on [] f τ b g t = g b t
   life_on (y ∷ p) f τ b g t = subst (λ z. Alternate z τ) (sym t.0) (g true t.1)
 
-  alternate_one : (p : Place) (x : What O) (f : Bool → Type 0) (τ : List (Event O)) (b : Bool) → Goes f τ → Turned f (turn_in p x) b → Alternate b (past p x τ)
-  alternate_one p (In h i) f τ b g t = moves_in (rise_to h p) p (In h i) f τ b tt g t
-  alternate_one p (Back h a) f τ b g t = moves_in (rise_to h p) p (Back h a) f τ b tt g t
-  alternate_one p (Out h down i) f τ b g t = tells_out (rise_to h p) p (Out h down i) f τ b tt g t
-  alternate_one p (Done h r) f τ b g t = tells_out (rise_to h p) p (Done h r) f τ b tt g t
-  alternate_one p (Made o s) f τ b g t = life_on p f τ b g t
-  alternate_one p Dropped f τ b g t = life_on p f τ b g t
-  alternate_one p x f τ b g t = subst (λ y. Alternate y τ) (sym t.0) (g true t.1)
+  alternate_one : (p : Place) (x : What O) (f : Bool → Type 0) (τ : List (Event O)) (b : Bool) → IsFound x → Goes f τ → Turned f (turn_in p x) b → Alternate b (past p x τ)
+  alternate_one p (Unfound t i c) f τ b n g k = absurd n
+  alternate_one p (In h i) f τ b n g t = moves_in (rise_to h p) p (In h i) f τ b tt g t
+  alternate_one p (Back h a) f τ b n g t = moves_in (rise_to h p) p (Back h a) f τ b tt g t
+  alternate_one p (Out h down i) f τ b n g t = tells_out (rise_to h p) p (Out h down i) f τ b tt g t
+  alternate_one p (Done h r) f τ b n g t = tells_out (rise_to h p) p (Done h r) f τ b tt g t
+  alternate_one p (Made o s) f τ b n g t = life_on p f τ b g t
+  alternate_one p Dropped f τ b n g t = life_on p f τ b g t
+  alternate_one p x f τ b n g t = subst (λ y. Alternate y τ) (sym t.0) (g true t.1)
 
-  alternate : (σ : List (Event O)) (b : Bool) → Tracked [] σ b → Alternate b (past_the_top σ)
-  alternate [] b t = tt
-  alternate (ev ∷ σ) b t = alternate_one ev.place ev.what (Tracked [] σ) (past_the_top σ) b (λ y u. alternate σ y u) t
+  alternate : (σ : List (Event O)) (b : Bool) → AreFound σ → Tracked [] σ b → Alternate b (past_the_top σ)
+  alternate [] b n t = tt
+  alternate (ev ∷ σ) b n t = alternate_one ev.place ev.what (Tracked [] σ) (past_the_top σ) b n.0 (λ y u. alternate σ y n.1 u) t
 
   -- what is told stands behind a move
   abbrev Behind : Bool → List (Event O) → Type 0
@@ -253,6 +247,9 @@ module _ {O I S : Type 0} (goes : Tree O → S → Wait → Event O → S → Ty
     steps : steps_of (seen w) ≤ m
     steps = watching.steps goes prog T V o z t i c crossings r w n m below there enough
 
+    found : AreFound (seen w)
+    found = watching.found goes prog T V o z t i c crossings r w below
+
     -- what a part of the happenings is as a record
     moves_front : (front back : List (Event O)) → seen w ≡ front ++ back → moves_of (past_the_top front) ≡ moves_of front
     moves_front front back e = moves_past front (lasting_front front back (subst IsLasting e remains))
@@ -264,7 +261,7 @@ module _ {O I S : Type 0} (goes : Tree O → S → Wait → Event O → S → Ty
         let d : React prog (at T c) (moves_of front) m (outcome_so_far front) (outs_of front) (after front (at T c)) =
         reacts_before.reacts prog c (before T (visit t i w.events r)) (before V []) t i r m front back next w.visits refl refl e f (unended front u) (steps_front (seen w) front (next ∷ back) m e steps) in
         subst (λ ms. React prog (at T c) ms m (outcome_so_far (past_the_top front)) (outs_of (past_the_top front)) (after front (at T c))) (sym (moves_front front (next ∷ back) e))
-        (subst (λ x. React prog (at T c) (moves_of front) m x (outs_of (past_the_top front)) (after front (at T c))) (sym (so_far_past front))
+        (subst (λ x. React prog (at T c) (moves_of front) m x (outs_of (past_the_top front)) (after front (at T c))) (sym (so_far_past front (found_front front (next ∷ back) (subst AreFound e found))))
         (subst (λ outs. React prog (at T c) (moves_of front) m (outcome_so_far front) outs (after front (at T c))) (sym (outs_past front)) d))
 
     -- it leaves the subtree as it stands there
@@ -282,14 +279,14 @@ module _ {O I S : Type 0} (goes : Tree O → S → Wait → Event O → S → Ty
         let l : Lives prog (inside_of c (before T (visit t i w.events r))) (inside_of c (before V [])) None = lives_within prog c (before T (visit t i w.events r)) (before V []) (watching.life goes prog T V o z t i c crossings r w) in
         let k : Tracked [] (seen w) false =
         track [] prog (runs_derived prog (inside_of c (before T (visit t i w.events r))) [] (wait idle never) (inside_of c (before V [])) None l) (λ y. tt) (no_tape [] prog (inside_of c (before V [])) true refl) in
-        subst (Alternate false) (sym w.recorded) (alternate (seen w) false k)
+        subst (Alternate false) (sym w.recorded) (alternate (seen w) false found k)
 
     module _ (early : List (Event O)) where
       abbrev At : Event O → List (Event O) → Type 0
       At ev late = PartsAt (seen w) early ev late
 
       at_part : (ev : Event O) (late : List (Event O)) → crossings ≡ early ++ ev ∷ late → At ev late
-      at_part ev late e = parts_at (seen w) early ev late (sym w.recorded ∙ e)
+      at_part ev late e = parts_at (seen w) early ev late found (sym w.recorded ∙ e)
 
       just : (x : Outcome) (outs : List (Event O)) (W : Tree O) → x ≡ outcome_so_far early → React prog (at T c) (moves_of early) m x outs W → DoesJust prog (at T c) (moves_of early) m x outs W
       just x outs W e d = record {
@@ -309,7 +306,7 @@ module _ {O I S : Type 0} (goes : Tree O → S → Wait → Event O → S → Ty
       waits_there : (ev : Event O) (late : List (Event O)) → crossings ≡ early ++ ev ∷ late → IsUnended early → IsAnswer ev.what → outcome_so_far early ≡ Waiting
       waits_there ev late e u f =
           let g : At early ev late = at_part early ev late e in
-          ap outcome_so_far (sym g.fronts) ∙ so_far_past g.front ∙
+          ap outcome_so_far (sym g.fronts) ∙ so_far_past g.front (found_front g.front (ev ∷ g.back) (subst AreFound g.whole found)) ∙
           reacts_before.waits prog c (before T (visit t i w.events r)) (before V []) t i r g.front g.back ev w.visits refl refl g.whole (reads_move ev.place ev.what g.passes (answer_moves ev.what f)) f (unended g.front (subst IsUnended (sym g.fronts) u))
 
       -- with all moves of the record

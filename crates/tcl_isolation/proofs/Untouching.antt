@@ -8,18 +8,17 @@ use Rattle.tcl_core.specs.Lives.{put}
 use Rattle.tcl_core.specs.Paths.{Path, Place, Height, strip, rise_to}
 use Rattle.tcl_core.specs.Programs.{Calls_only, Prog, Table, Wait, spot, closes}
 use Rattle.tcl_core.specs.Rules.{Derives}
-use Rattle.tcl_core.specs.Rules.Derives.{completed, exited, acted, refused, unheard, went, passed, halted, wrapped, wrapped_passed, wrapped_halted, too_deep, shut, unheard_inside, called, called_passed, called_halted, unreached, called_out, unanswered, unfit, answered, heard, answered_passed, entered, entered_halted, entered_exiting, born, fallen}
-use Rattle.tcl_core.specs.Runs.{Ending, Step, World, entering, where_stands}
+use Rattle.tcl_core.specs.Rules.Derives.{completed, exited, acted, refused, unheard, went, passed, halted, wrapped, wrapped_passed, wrapped_halted, too_deep, shut, unheard_inside, called, called_passed, called_halted, unreached, called_out, unanswered, unfit, answered, heard, missed, answered_passed, entered, entered_halted, entered_exiting, born, fallen, unfound}
+use Rattle.tcl_core.specs.Runs.{Ending, Step, World, where_stands}
 use Rattle.tcl_core.specs.Execution.{before, event}
 use Rattle.tcl_core.specs.Trees.{Event, Node, Tree, What, seen_what}
-use Rattle.tcl_core.specs.Trees.What.{Out, In, Done, Back, Dropped}
+use Rattle.tcl_core.specs.Trees.What.{Out, In, Done, Back, Dropped, Unfound}
 use Rattle.tcl_core.specs.Views.{from_above, kept, view}
 use Rattle.tcl_core.proofs.Inward.{untouched, goes_to, past as out_of}
 use Rattle.tcl_core.proofs.PathLaws.{not_both, rise_back, strip_own}
 use Rattle.tcl_core.proofs.Plain.{IsPlain, closes_plain, decide_plain, opens_plain}
 use Rattle.tcl_core.proofs.RuleLaws.{runs_derived}
 use Rattle.tcl_core.proofs.TreeLaws.{spot_in, reached_at}
-use Rattle.tcl_core.proofs.Callers.{entering_calls}
 use Rattle.tcl_recorder.specs.Boundary.{boundary, past, past_the_top}
 use Rattle.tcl_isolation.specs.Visits.{CallsNobody, WatchedVisit, visit}
 use Rattle.tcl_isolation.proofs.Records.{Kind, kind}
@@ -43,7 +42,8 @@ module _ {O : Type 0} where
   inward_one : (s b : Option Place) (x : What O) (τ : List (Event O)) → CallsNobody (past_the_top (kept s b x τ)) → Inward s x × CallsNobody (past_the_top τ)
   inward_one None b x τ f = (tt, subst CallsNobody (unseen_above b x τ) f)
   inward_one (Some q) b (Out h down i) τ f = inward_out (rise_to h q) q h down i (past_the_top τ) refl f
-  inward_one (Some q) b x τ f = (tt, nobody_later q (seen_what q x) (past_the_top τ) (kind q (seen_what q x)) f)
+  inward_one (Some q) b (Unfound t i c) τ f = (tt, f.1.1)
+  inward_one (Some q) b x τ f = (tt, nobody_later q (seen_what q x) (past_the_top τ) (kind q (seen_what q x) tt) f)
 
   pub inward : (c : Place) (τ : List (Event O)) → CallsNobody (boundary c τ) → AreInward c τ
   inward c [] f = tt
@@ -105,10 +105,10 @@ module _ {O I : Type 0} (c : Place) (prog : Table O I) where
   keep (halted w p i k u a) q n f h = keep a q n (prog.programs_call i) h
   keep (wrapped w p b i k x inner left closed v y e g on s a t d) q n f h =
       step c w _ (spot q x.0) x.1 inner v (spot_in c p q x.0 n) (unheard_plain _ x.1 (opens_plain b w.tree p w.grants x g)) s h (λ j. run c inner left v (keep a q n (prog.programs_call i) j)
-      (λ j2. step c left p q _ closed v n (unheard_plain p (closes b (left.tree p)) (closes_plain b (left.tree p))) t j2 (λ j3. keep d q n (f y) j3)))
+      (λ j2. step c left p q _ closed v n (unheard_plain p (closes b (inner.tree p) (left.tree p)) (closes_plain b (inner.tree p) (left.tree p))) t j2 (λ j3. keep d q n (f y) j3)))
   keep (wrapped_passed w p b i k x inner left closed r l g on s a t) q n f h =
       step c w _ (spot q x.0) x.1 inner closed (spot_in c p q x.0 n) (unheard_plain _ x.1 (opens_plain b w.tree p w.grants x g)) s h (λ j. run c inner left closed (keep a q n (prog.programs_call i) j)
-      (λ j2. step c left p q _ closed closed n (unheard_plain p (closes b (left.tree p)) (closes_plain b (left.tree p))) t j2 (λ j3. here c closed j3)))
+      (λ j2. step c left p q _ closed closed n (unheard_plain p (closes b (inner.tree p) (left.tree p)) (closes_plain b (inner.tree p) (left.tree p))) t j2 (λ j3. here c closed j3)))
   keep (wrapped_halted w p b i k x inner left g on s a) q n f h = step c w _ (spot q x.0) x.1 inner left (spot_in c p q x.0 n) (unheard_plain _ x.1 (opens_plain b w.tree p w.grants x g)) s h (λ j. keep a q n (prog.programs_call i) j)
   keep (too_deep w p b i k x u v e g deep s a) q n f h = step c w _ (spot q x.0) x.1 u v (spot_in c p q x.0 n) (unheard_plain _ x.1 (opens_plain b w.tree p w.grants x g)) s h (λ j. keep a q n (f _) j)
   keep (shut w p b i k x r u g off s) q n f h = step c w _ (spot q x.0) x.1 u u (spot_in c p q x.0 n) (unheard_plain _ x.1 (opens_plain b w.tree p w.grants x g)) s h (λ j. here c u j)
@@ -116,17 +116,17 @@ module _ {O I : Type 0} (c : Place) (prog : Table O I) where
   keep (called w p h down i lost k a t out inner left told back v r y e g s1 j s2 x s3 so s4 b) q n f m =
       let o : Inward {O = O} (Some q) (Out h down i) × AreInward c out.tape = one c w p q (Out h down i) out n s1 m in
       let z : (z : Place) × (strip c t ≡ Some z) = goes_to c p q a h down t (out.tree (a ++ down)) n g o.0 j in
-      step c w p q _ out v n tt s1 m (λ l. step c out t z.0 _ inner v z.1 (comes_in c a down t (out.tree (a ++ down)) j) s2 l (λ l2. run c inner left v (keep x z.0 z.1 (entering_calls prog (out.tree t) i) l2)
+      step c w p q _ out v n tt s1 m (λ l. step c out t z.0 _ inner v z.1 (comes_in c a down t (out.tree (a ++ down)) j) s2 l (λ l2. run c inner left v (keep x z.0 z.1 (prog.entries_call i) l2)
       (λ l3. step c left t z.0 _ told v z.1 tt s3 l3 (λ l4. step c told p q _ back v n (λ up. not_both up g) s4 l4 (λ l5. keep b q n (f _) l5)))))
   keep (called_passed w p h down i lost k a t out inner left told back r g s1 j s2 x s3 y s4) q n f m =
       let o : Inward {O = O} (Some q) (Out h down i) × AreInward c out.tape = one c w p q (Out h down i) out n s1 m in
       let z : (z : Place) × (strip c t ≡ Some z) = goes_to c p q a h down t (out.tree (a ++ down)) n g o.0 j in
-      step c w p q _ out back n tt s1 m (λ l. step c out t z.0 _ inner back z.1 (comes_in c a down t (out.tree (a ++ down)) j) s2 l (λ l2. run c inner left back (keep x z.0 z.1 (entering_calls prog (out.tree t) i) l2)
+      step c w p q _ out back n tt s1 m (λ l. step c out t z.0 _ inner back z.1 (comes_in c a down t (out.tree (a ++ down)) j) s2 l (λ l2. run c inner left back (keep x z.0 z.1 (prog.entries_call i) l2)
       (λ l3. step c left t z.0 _ told back z.1 tt s3 l3 (λ l4. step c told p q _ back back n (λ up. not_both up g) s4 l4 (λ l5. here c back l5)))))
   keep (called_halted w p h down i lost k a t out inner left g s1 j s2 x) q n f m =
       let o : Inward {O = O} (Some q) (Out h down i) × AreInward c out.tape = one c w p q (Out h down i) out n s1 m in
       let z : (z : Place) × (strip c t ≡ Some z) = goes_to c p q a h down t (out.tree (a ++ down)) n g o.0 j in
-      step c w p q _ out left n tt s1 m (λ l. step c out t z.0 _ inner left z.1 (comes_in c a down t (out.tree (a ++ down)) j) s2 l (λ l2. keep x z.0 z.1 (entering_calls prog (out.tree t) i) l2))
+      step c w p q _ out left n tt s1 m (λ l. step c out t z.0 _ inner left z.1 (comes_in c a down t (out.tree (a ++ down)) j) s2 l (λ l2. keep x z.0 z.1 (prog.entries_call i) l2))
   keep (unreached w p h down i lost k a out back v e g s1 j s2 x) q n f m =
       step c w p q _ out v n tt s1 m (λ l. step c out p q _ back v n (λ up. not_both up g) s2 l (λ l2. keep x q n (f _) l2))
   keep (called_out w p h down i lost k u v e g s a) q n f m =
@@ -136,12 +136,14 @@ module _ {O I : Type 0} (c : Place) (prog : Table O I) where
   keep (unfit w p s k m ms g j l t) q n f h = absurd f
   keep (answered w p s k y u v e g j t a) q n f h = absurd f
   keep (heard w p s k y u v e g j t a) q n f h = absurd f
+  keep (missed w p s k u v e g j t a) q n f h = absurd f
   keep (answered_passed w p s k r u l g j t) q n f h = absurd f
-  keep (entered w p s k t i inner left told v r e g s1 a s2 m b) q n f h = absurd f
-  keep (entered_halted w p s k t i inner left g s1 a) q n f h = absurd f
-  keep (entered_exiting w p s k t i inner left told v m e g s1 a s2 b) q n f h = absurd f
+  keep (entered w p s k t i inner left told v r e g here s1 a s2 m b) q n f h = absurd f
+  keep (entered_halted w p s k t i inner left g here s1 a) q n f h = absurd f
+  keep (entered_exiting w p s k t i inner left told v m e g here s1 a s2 b) q n f h = absurd f
   keep (born w p s k o b u v e g t a) q n f h = absurd f
   keep (fallen w p s k u v e g t a) q n f h = absurd f
+  keep (unfound w p s k t i u v e g here b a) q n f h = absurd f
 
 module _ {O I S : Type 0} (goes : Tree O → S → Wait → Event O → S → Type 0) (prog : Table O I) (T V : Tree O) (o z : S) (u : Path) (i : Entry) (c : Place) (crossings : List (Event O)) (r : Reply) where
   abbrev Within : Type 0
@@ -160,6 +162,6 @@ module _ {O I S : Type 0} (goes : Tree O → S → Wait → Event O → S → Ty
       let first : event (c ++ u) (In None i) ∷ (w.events ++ event (c ++ u) (Done None r) ∷ []) ≡ event (c ++ u) (In None i) ∷ a.entered.tape = a.entry.tape in
       let between : w.events ++ event (c ++ u) (Done None r) ∷ [] ≡ a.entered.tape = cc in
       let g : AreInward c (w.events ++ event (c ++ u) (Done None r) ∷ []) = (all_inward w f).1 in
-      let k : Quiet c a.entered a.left = keep c prog (runs_derived prog a.entered (c ++ u) (entering prog (T (c ++ u)) i) a.left (Some r) a.run) u (strip_own c u) (entering_calls prog (T (c ++ u)) i) (subst (AreInward c) between g) in
+      let k : Quiet c a.entered a.left = keep c prog (runs_derived prog a.entered (c ++ u) (prog.entry i) a.left (Some r) a.run) u (strip_own c u) (prog.entries_call i) (subst (AreInward c) between g) in
       let last : AreUnheard a.left.tape = subst AreUnheard (sym a.leaving.tape) (tt, tt) in
       unheard_front w.events (event (c ++ u) (Done None r) ∷ []) (subst AreUnheard (sym between) (k.1 last))

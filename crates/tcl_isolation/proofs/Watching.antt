@@ -11,7 +11,7 @@ use Rattle.tcl_core.specs.Programs.{Table, Wait}
 use Rattle.tcl_core.specs.Programs.Prog.{wait}
 use Rattle.tcl_core.specs.Execution.{before}
 use Rattle.tcl_core.specs.Trees.{Event, Move, Node, Tree, What, at}
-use Rattle.tcl_core.specs.Trees.What.{Done}
+use Rattle.tcl_core.specs.Trees.What.{Done, Unfound}
 use Rattle.tcl_core.specs.Views.{moves_of, steps_of, view}
 use Rattle.tcl_core.proofs.Beginnings.{isolation_until}
 use Rattle.tcl_core.proofs.Counts.{counting, standing}
@@ -20,7 +20,8 @@ use Rattle.tcl_core.proofs.Reacting.{IsLasting, lasting, life_of}
 use Rattle.tcl_core.proofs.Worlds.{isolation}
 use Rattle.tcl_isolation.specs.Laws.{Suffices}
 use Rattle.tcl_isolation.specs.Visits.{IsBelowTheTop, WatchedVisit, visit}
-use Rattle.tcl_isolation.proofs.Records.{Parts, lasting_front, moves_past, outcome_past, outs_past, parts, unended}
+use Rattle.tcl_recorder.proofs.Meeting.{AreMet, visit_met}
+use Rattle.tcl_isolation.proofs.Records.{AreFound, Parts, found_below, lasting_front, moves_past, outcome_past, outs_past, parts, unended}
 
 -- the outcome that a record tells is one of those by which a tree stops by itself
 stops_ending : (r : Reply) → StopsByItself (ending_of r)
@@ -36,6 +37,7 @@ stops_last (Some a) r x f = f
 module _ {O : Type 0} where
   stops_at : (p : Place) (y : What O) (x : Outcome) → StopsByItself x → StopsByItself (outcome_at p y x)
   stops_at p (Done h r) x f = stops_last (rise_to h p) r x f
+  stops_at p (Unfound t i c) x f = tt
   stops_at p _ x f = f
 
   pub by_itself : (τ : List (Event O)) (x : Outcome) → StopsByItself x → StopsByItself (outcome_of τ x)
@@ -68,6 +70,16 @@ module _ {O I S : Type 0} (goes : Tree O → S → Wait → Event O → S → Ty
 
   pub remains : (w : Watched) (n : Node O) → IsBelowTheTop c → T c ≡ Some n → IsLasting (seen w)
   remains w n f e = lasting c (tape w) (stands w n f e)
+
+  pub met : (w : Watched) → AreMet T (tape w)
+  met w = visit_met prog (before T (tape w)) t i (before V []) r w.visits tt
+
+  pub found : (w : Watched) → IsBelowTheTop c → AreFound (seen w)
+  found w f = by c f
+    where
+      by : (d : Place) → IsBelowTheTop d → AreFound (view d (tape w))
+      by [] g = absurd g
+      by (name ∷ d) g = found_below T name d (tape w) (met w)
 
   pub same_moves : (w : Watched) (n : Node O) → IsBelowTheTop c → T c ≡ Some n → moves_of crossings ≡ moves_of (seen w)
   same_moves w n f e = ap moves_of w.recorded ∙ moves_past (seen w) (remains w n f e)
@@ -109,7 +121,7 @@ module _ {O I S : Type 0} (goes : Tree O → S → Wait → Event O → S → Ty
 
   pub split : (w : Watched) (n : Node O) (early late : List (Event O)) → IsBelowTheTop c → T c ≡ Some n → crossings ≡ early ++ late → Split w early late
   split w n early late f e whole =
-      let g : Parts (seen w) early late = parts (seen w) early late (sym w.recorded ∙ whole) in
+      let g : Parts (seen w) early late = parts (seen w) early late (found w f) (sym w.recorded ∙ whole) in
       record {
         front = g.front;
         back = g.back;

@@ -5,12 +5,11 @@ use Rattle.tcl_core.specs.Endings.{Reply}
 use Rattle.tcl_core.specs.Endings.Reply.{Cut}
 use Rattle.tcl_core.specs.Entries.{Entry}
 use Rattle.tcl_core.specs.Entries.Answer.{Replied}
-use Rattle.tcl_core.specs.Laws.{AtMove, IsLowering, IsSpared, IsUnended, after, rest}
+use Rattle.tcl_core.specs.Laws.{AtMove, IsLowering, IsOpenOrDone, IsSpared, IsUnended, after, rest}
 use Rattle.tcl_core.specs.Lives.{Outcome, React, count_at, limit_at, outcome_of, outs_of}
 use Rattle.tcl_core.specs.Lives.Outcome.{Ended, Finished, Waiting}
 use Rattle.tcl_core.specs.Paths.{Path, Place}
 use Rattle.tcl_core.specs.Programs.{Table, Wait}
-use Rattle.tcl_core.specs.Runs.{entering}
 use Rattle.tcl_core.specs.Execution.{Chain, Crossings, Executes, Open}
 use Rattle.tcl_core.specs.Trees.{Event, Move, Node, Tree, What, at}
 use Rattle.tcl_core.specs.Trees.What.{Out, In, Done, Back}
@@ -21,15 +20,16 @@ use Rattle.tcl_run.specs.Outsides.{hosted}
 use Rattle.tcl_tree.specs.Own.{Own}
 use Rattle.tcl_reactions.specs.Laws.{IsAnswer, outcome_so_far}
 use Rattle.tcl_recorder.specs.Boundary.{boundary}
-use Rattle.tcl_isolation.specs.Visits.{CallsNobody, IsBelowTheTop, WatchedVisit, visit}
+use Rattle.tcl_isolation.specs.Visits.{CallsNobody, DroppedVisit, IsBelowTheTop, WatchedVisit}
+use Rattle.tcl_isolation.specs.Visits.{visit}
 
--- What code executes in an entry is a watched visit, wherever the watched interpreter is and
--- whatever crosses its boundary, if it isn't dropped.
+-- What code executes in an entry for a path where somebody stands is a watched visit, wherever the
+-- watched interpreter is and whatever crosses its boundary, if it isn't dropped.
 abbrev pub EntriesAreVisits : {O S : Type 0} → Type 0 → (Tree O → S → Wait → Event O → S → Type 0) →
     Type 0
 EntriesAreVisits {O} {S} I goes = (prog : Table O I) (T V : Tree O) (o z : S) (t : Path) (i : Entry)
-    (c : Place) (r : Reply) →
-    Executes (Crossings goes) prog T o t (entering prog (T t) i) V z r →
+    (c : Place) (r : Reply) (node : Node O) → T t ≡ Some node →
+    Executes (Crossings goes) prog T o t (prog.entry i) V z r →
     (events : List (Event O)) × (IsSpared c (visit t i events r) →
     WatchedVisit goes prog T o t i c (boundary c (visit t i events r)) V z r)
 
@@ -138,6 +138,21 @@ ReactsThere {O} {S} I goes = (prog : Table O I) (T V : Tree O) (o z : S) (t : Pa
     IsUnended (boundary c first) → Suffices m (T c) (V c) →
     React prog (at T c) (moves_of (boundary c first)) m (outcome_so_far (boundary c first))
     (outs_of (boundary c first)) (at (after first T) c)
+
+-- ## Up to a deletion
+
+-- Where the watched interpreter is dropped, it or one above it, and no entry was ended from outside
+-- until then: with the moves of the record until then the subtree by itself has done what it was
+-- asked for, or it waits at a call that is open; it tells what the record tells, and leaves the
+-- subtree that stood there when it was dropped. So it is with every budget that isn't less than the
+-- steps made there until then; and it does nothing else.
+abbrev pub ReactsToDrop : {O S : Type 0} → Type 0 → (Tree O → S → Wait → Event O → S → Type 0) →
+    Type 0
+ReactsToDrop {O} {S} I goes = (prog : Table O I) (T V : Tree O) (o z : S) (t : Path) (i : Entry)
+    (c : Place) (crossings : List (Event O)) (r : Reply) (n : Node O) (m : ℕ) →
+    (w : DroppedVisit goes prog T o t i c crossings V z r) → IsBelowTheTop c → T c ≡ Some n →
+    IsUnended crossings → steps_of (view c w.first) ≤ m → (x : Outcome) × IsOpenOrDone x ×
+    DoesJust prog (at T c) (moves_of crossings) m x (outs_of crossings) (at (after w.first T) c)
 
 -- ## What is outside
 

@@ -4,8 +4,8 @@
 //! interpreter: the laws hold for every table of commands, but for those of scripts, at the end.
 ghost use Rattle.tcl_isolation.specs.Laws.{CountRises, CountStaysWithin, EntriesAreVisits};
 ghost use Rattle.tcl_isolation.specs.Laws.{LeavesTheHost, LeavesTheRest, QuietBetween, Reacts};
-ghost use Rattle.tcl_isolation.specs.Laws.{ReactsSo, ReactsThere, ReactsUntil, WorldsAgree};
-ghost use Rattle.tcl_isolation.specs.Laws.{WorldsAgreeUntil};
+ghost use Rattle.tcl_isolation.specs.Laws.{ReactsSo, ReactsThere, ReactsToDrop, ReactsUntil};
+ghost use Rattle.tcl_isolation.specs.Laws.{WorldsAgree, WorldsAgreeUntil};
 ghost use Rattle.tcl_isolation.specs.Scripts.{AsksTheHostNothing, LimitsStay, ScriptsStayWithin};
 
 use tcl_host::host::Host;
@@ -39,6 +39,13 @@ pub fn reacts_until<O: Outside, I>()
 /// And where control comes in, that leaves the subtree as it stands there.
 pub fn reacts_there<O: Outside, I>()
     ensures { ReactsThere I O.goes }
+{}
+
+/// Where the watched interpreter is dropped, it or one above it, what the record tells until then is
+/// what the subtree does by itself with the moves until then: it has done what it was asked for, or
+/// it waits at a call that is open. That leaves the subtree as it stood when it was dropped.
+pub fn reacts_to_drop<O: Outside, I>()
+    ensures { ReactsToDrop I O.goes }
 {}
 
 /// From an entry into the watched subtree, or an answer to a call of it, to the next call or end

@@ -1,11 +1,11 @@
 -- What contracts see of a player.
-use Rattle.std.specs.Prelude.{◌≡◌, true, Option, Some, None}
+use Rattle.std.specs.Prelude.{◌≡◌, ℕ, true, Option, Some, None}
 use Rattle.std.specs.Option.{option_map}
 use Rattle.tcl_core.specs.Entries.{Answer, Entry}
 use Rattle.tcl_core.specs.Lives.{Outcome}
 use Rattle.tcl_core.specs.Lives.Outcome.{Finished, Waiting, Ended, Exited, Spent, Misfit}
-use Rattle.tcl_core.specs.Paths.{Path, Height}
-use Rattle.tcl_core.specs.Runs.{is_own}
+use Rattle.tcl_core.specs.Paths.{Path, Place, Height}
+use Rattle.tcl_core.specs.Runs.{gone, is_told}
 use Rattle.tcl_core.specs.Execution.{event}
 use Rattle.tcl_core.specs.Trees.{Move, Tree}
 use Rattle.tcl_core.specs.Trees.Move.{Enter, Come}
@@ -54,17 +54,17 @@ result_of (outcome.Exited n) = Exited n
 result_of outcome.Spent = Spent
 result_of outcome.Misfit = Misfit
 
-module _ (T : Tree Own) (o : Player Own) (h : Height) (i : Entry) where
-  -- The open call, so high up and for this, goes on by this move: an entry, or an answer of its own
-  -- that isn't an end from outside.
+module _ (T : Tree Own) (p : Place) (d : ℕ) (o : Player Own) (h : Height) (i : Entry) where
+  -- The open call from p, so high up and for this, that went out when d evaluations were in progress
+  -- there, goes on by this move: an entry, or an answer that fits it and isn't an end from outside.
   abbrev pub GoesOn : Move Own → Player Own → Type 0
   GoesOn (Enter target entry) z = HandsIn o target entry z
-  GoesOn (Come a) z = Answers T o (Some (h, i)) a z × (is_own h i a ≡ true)
+  GoesOn (Come a) z = Answers T p o (Some (h, i, d)) a z × (is_told (gone d T p) h i a ≡ true)
   GoesOn m z = Prim.⊥
 
   -- Or the playing is over, and any end ends the call.
   abbrev pub IsOverBy : Player Own → Type 0
-  IsOverBy z = (a : Answer) → IsEnd a → Answers T o (Some (h, i)) a z
+  IsOverBy z = (a : Answer) → IsEnd a → Answers T p o (Some (h, i, d)) a z
 
 -- What comes between two entries: the next one, handed in where the last came to its end, whatever
 -- the tree then is;

@@ -72,6 +72,7 @@ fn copy_answer(answer: &Answer) -> Result<Answer, AllocError>
     match answer {
         Answer::Replied(reply) => Ok(Answer::Replied(copy_reply(reply)?)),
         Answer::Heard(reply) => Ok(Answer::Heard(copy_heard(reply)?)),
+        Answer::Nobody => Ok(Answer::Nobody),
     }
 }
 

@@ -1,16 +1,17 @@
 //! Who plays moves to a tree by itself.
-ghost use Rattle.std.specs.Prelude.{◌≡◌, ◌<◌, ◌≤◌, length, None, Some, IfNone, IfOk, IfSome, OnOk};
+ghost use Rattle.std.specs.Prelude.{◌≡◌, ℕ, ◌<◌, ◌≤◌, length, None, Some, IfNone, IfOk, IfSome};
+ghost use Rattle.std.specs.Prelude.{OnOk};
 ghost use Rattle.tcl_core.specs.Endings.Reply.{Exit};
 ghost use Rattle.tcl_core.specs.Entries.Answer.{Replied};
 ghost use Rattle.tcl_core.specs.Lives.{outcome_of};
 ghost use Rattle.tcl_core.specs.Lives.Outcome.{Finished};
 ghost use Rattle.tcl_core.specs.Execution.{event};
 ghost use Rattle.tcl_core.specs.Paths.{Path, rise_to};
+ghost use Rattle.tcl_core.specs.Runs.{gone};
 ghost use Rattle.tcl_core.specs.Trees as core;
 ghost use Rattle.tcl_core.specs.Trees.What.{Back, Done, Out};
 ghost use Rattle.tcl_player.specs.Moves.{move_of};
-ghost use Rattle.tcl_player.specs.Answering.{cuts_off, last_outcome};
-ghost use Rattle.tcl_reactions.specs.Playing.{suits};
+ghost use Rattle.tcl_player.specs.Answering.{IsKnown, cuts_off, fits_call, last_outcome};
 ghost use Rattle.tcl_reactions.specs.Playing as playing;
 ghost use Rattle.tcl_run.specs.Ends.{IfEnded};
 ghost use Rattle.tcl_run.specs.Entering.{whole_entry};
@@ -82,17 +83,23 @@ fn copy_of(tree: &Tree) -> Result<Tree, AllocError>
     }
 }
 
-/// Whether a move suits the call that goes so many levels up, or to the host, where the last entry
-/// ended by this exit or otherwise.
-fn suits(exited: Option<i64>, up: Option<usize>, entry: &Entry, next: &Move) -> bool
+/// Whether a move suits the call that goes so many levels up, or to the host, where its caller is
+/// gone so many levels up or stands, and the last entry ended by this exit or otherwise.
+fn suits(
+    exited: Option<i64>,
+    gone: Option<usize>,
+    up: Option<usize>,
+    entry: &Entry,
+    next: &Move,
+) -> bool
     ensures { result
-        ≡ suits (last_outcome exited) (Some (up, whole_entry entry.now)) (move_of next.now) }
+        ≡ fits_call (last_outcome exited) gone up (whole_entry entry.now) (move_of next.now) }
 {
     match next {
         Move::Enter { .. } => exited.is_none(),
         Move::Come(answer) => match exited {
             Some(status) => exits(status, answer),
-            None => answers_call(up, entry, answer),
+            None => answers_call(gone, up, entry, answer),
         },
     }
 }
@@ -185,23 +192,28 @@ impl<'a> Player<'a> {
         }
     }
 
-    /// Reads the next move, where a call is open that goes so many levels up, or to the host. None
-    /// where the playing is over.
+    /// Reads the next move, where a call is open that goes so many levels up, or to the host, and
+    /// whose caller is gone so many levels up or stands. None where the playing is over.
     ///
     /// # Errors
     /// Want of memory.
     fn read_on(
         &mut self,
         tree: &Tree,
+        gone: Option<usize>,
         up: Option<usize>,
         entry: &Entry,
     ) -> Result<Option<&'a Move>, AllocError>
         ensures reads { IfOk result
-            (λ read. IfSome read (λ m. GoesOn (tree_of tree.now) (player_of self.old) up
-            (whole_entry entry.now) (move_of m.now) (player_of self.new))) }
+            (λ read. IfSome read (λ m. (p : Path) (d : ℕ) →
+            IsKnown self.old.exited gone (gone d (tree_of tree.now) p) →
+            GoesOn (tree_of tree.now) p d (player_of self.old) up (whole_entry entry.now)
+            (move_of m.now) (player_of self.new))) }
         ensures over { IfOk result
-            (λ read. IfNone read (IsOverBy (tree_of tree.now) (player_of self.old) up
-            (whole_entry entry.now) (player_of self.new))) }
+            (λ read. IfNone read ((p : Path) (d : ℕ) →
+            IsKnown self.old.exited gone (gone d (tree_of tree.now) p) →
+            IsOverBy (tree_of tree.now) p d (player_of self.old) up (whole_entry entry.now)
+            (player_of self.new))) }
         ensures fewer { IfOk result
             (λ read. IfSome read (λ m. length (player_of self.new).left < length
             (player_of self.old).left)) }
@@ -215,7 +227,7 @@ impl<'a> Player<'a> {
             self.fate = Some(Fate::Waits(copy_of(tree)?));
             return Ok(None);
         };
-        if !suits(self.exited, up, entry, first) {
+        if !suits(self.exited, gone, up, entry, first) {
             self.fate = Some(Fate::Unfits);
             return Ok(None);
         }
@@ -287,7 +299,7 @@ impl<'a> Player<'a> {
     }
 
     /// The last entry ended by this exit. So what comes next to the open call is that exit, or the
-    /// playing is over: nothing else suits.
+    /// playing is over: nothing else suits, whether its caller is gone or not.
     ///
     /// # Errors
     /// Want of memory.
@@ -298,12 +310,19 @@ impl<'a> Player<'a> {
         entry: &Entry,
         status: i64,
     ) -> Result<(), AllocError>
-        ensures told { OnOk result ((p : Path) → rise_to up p ≡ None →
-            played (tree_of tree.now) self.old (Some (up, whole_entry entry.now))
+        ensures told { OnOk result ((p : Path) (d : ℕ) → rise_to up p ≡ None →
+            played (tree_of tree.now) self.old (Some (up, whole_entry entry.now, d))
             (event p (Back up (Replied (Exit status)))) self.new) }
         ensures left { length (player_of self.new).left ≤ length (player_of self.old).left }
     {
-        match self.read_on(tree, up, entry)? {
+        if self.fate.is_some() {
+            return Ok(());
+        }
+        // (As long as the playing goes on, each exit of an entry is kept.)
+        if self.exited.is_none() {
+            return Err(AllocError);
+        }
+        match self.read_on(tree, None, up, entry)? {
             None => Ok(()),
             Some(Move::Come(answer)) if exits(status, answer) => Ok(()),
             Some(_) => Err(AllocError),
@@ -354,6 +373,7 @@ impl<'a> Outside for Player<'a> {
                 entry,
             } => self.call_goes(alloc, tree, caller, up, down, entry),
             Happening::EntryDone { target, ended } => self.entry_ends(alloc, target, ended),
+            Happening::Unfound { target, told, .. } => self.entry_ends(alloc, target, told),
             Happening::ExitCameBack {
                 up,
                 entry,
@@ -368,11 +388,12 @@ impl<'a> Outside for Player<'a> {
         &mut self,
         alloc: Global,
         tree: &Tree,
-        _caller: Place,
+        caller: Place,
         up: Option<usize>,
         entry: &Entry,
     ) -> Result<Turn, Interruption> {
-        match self.read_on(tree, up, entry)? {
+        let gone = tree.is_gone(caller);
+        match self.read_on(tree, gone, up, entry)? {
             Some(Move::Enter { target, entry }) => Ok(Turn::Entry(
                 Vec::from_clones(alloc, target.as_slice())?,
                 entry.copy(alloc)?,

@@ -1,12 +1,14 @@
 -- The laws of boundaries.
 use Rattle.std.proofs.Common.{◌≡◌, List, [], ◌∷◌, ◌++◌, Option, Some, None, refl, sym, ◌∙◌, ap}
 use Rattle.tcl_core.specs.Endings.{Reply}
+use Rattle.tcl_core.specs.Endings.Reply.{Completed}
 use Rattle.tcl_core.specs.Entries.{Answer, Entry}
 use Rattle.tcl_core.specs.Lives.{outs_of, put, told}
+use Rattle.tcl_core.specs.Execution.{event}
 use Rattle.tcl_core.specs.Paths.{Path, Place, Height, strip, rise_to}
 use Rattle.tcl_core.specs.Trees.{Event, Move, What, asked, at_top, where_none, seen_what}
 use Rattle.tcl_core.specs.Trees.Move.{Enter, Come, Born, Fall}
-use Rattle.tcl_core.specs.Trees.What.{Out, In, Done, Back, Made, Dropped}
+use Rattle.tcl_core.specs.Trees.What.{Out, In, Done, Back, Made, Dropped, Unfound}
 use Rattle.tcl_core.specs.Views.{from_above, kept, moves_of, view}
 use Rattle.tcl_core.proofs.PathLaws.{rise_to_out, rise_to_past, rise_to_within, strip-sound, strip_own}
 use Rattle.tcl_recorder.specs.Boundary.{at_passing, back_seen, beyond, boundary, done_seen, in_seen, out_seen, passing, passing_by, past, past_the_top}
@@ -27,7 +29,7 @@ module _ {O : Type 0} where
   past_append p (Done h r) σ τ = put_append (rise_to h p) p _ σ τ
   past_append p _ σ τ = refl
 
-  past_the_top_append : (σ τ : List (Event O)) → past_the_top (σ ++ τ) ≡ past_the_top σ ++ past_the_top τ
+  pub past_the_top_append : (σ τ : List (Event O)) → past_the_top (σ ++ τ) ≡ past_the_top σ ++ past_the_top τ
   past_the_top_append [] τ = refl
   past_the_top_append (ev ∷ σ) τ = ap (past ev.place ev.what) (past_the_top_append σ τ) ∙ past_append ev.place ev.what (past_the_top σ) (past_the_top τ)
 
@@ -40,7 +42,7 @@ module _ {O : Type 0} where
   kept_append None b x σ τ = from_above_append b x σ τ
   kept_append (Some q) b x σ τ = refl
 
-  view_append : (c : Place) (σ τ : List (Event O)) → view c (σ ++ τ) ≡ view c σ ++ view c τ
+  pub view_append : (c : Place) (σ τ : List (Event O)) → view c (σ ++ τ) ≡ view c σ ++ view c τ
   view_append c [] τ = refl
   view_append c (ev ∷ σ) τ = ap (kept (strip c ev.place) (strip ev.place c) ev.what) (view_append c σ τ) ∙ kept_append (strip c ev.place) (strip ev.place c) ev.what (view c σ) (view c τ)
 
@@ -54,6 +56,7 @@ module _ {O : Type 0} where
   unpassed p (Back h a) τ f = elim f [ ]
   unpassed p (In h i) τ f = elim f [ ]
   unpassed p (Done h r) τ f = elim f [ ]
+  unpassed p (Unfound t i c) τ f = elim f [ ]
   unpassed p _ τ f = refl
 
   unpassed_above : (b : Option Place) (x : What O) (τ : List (Event O)) → past_the_top (from_above b x τ) ≡ past_the_top τ
@@ -99,6 +102,7 @@ module _ {O : Type 0} where
   moves_one p (Done h r) σ ms e = unread_done (rise_to h p) p h r σ ∙ e
   moves_one p (Made o s) σ ms e = e ∙ sym (born_one p (Born o s) ms refl)
   moves_one p Dropped σ ms e = e ∙ sym (born_one p Fall ms refl)
+  moves_one p (Unfound t i c) σ ms e = ap (λ l. Enter t i ∷ l) e
   moves_one p _ σ ms e = e
 
   moves_past : (τ : List (Event O)) → moves_of (past_the_top τ) ≡ handed_over (moves_of τ)
@@ -129,6 +133,7 @@ module _ {O : Type 0} where
   outs_one p (Done h r) σ τ e = told_done (rise_to h p) p h r σ refl ∙ ap (put (rise_to h p) p (Done h r)) e
   outs_one p (In h i) σ τ e = untold_in (rise_to h p) p h i σ ∙ e
   outs_one p (Back h a) σ τ e = untold_back (rise_to h p) p h a σ ∙ e
+  outs_one p (Unfound t i c) σ τ e = ap (λ l. event t (Done None (Completed c)) ∷ l) e
   outs_one p _ σ τ e = e
 
   outs_past : (τ : List (Event O)) → outs_of (past_the_top τ) ≡ outs_of τ
@@ -171,4 +176,6 @@ ends O = record {
   back = λ c p h a τ. boundary_back c p h a τ ∙ ap (λ o. at_passing o (back_seen h a) (boundary c τ)) (passing_ends c p h);
   enters = λ c p h i τ. boundary_in c p h i τ ∙ ap (λ o. at_passing o (in_seen i) (boundary c τ)) (passing_ends c p h);
   leaves = λ c p h r τ. boundary_done c p h r τ ∙ ap (λ o. at_passing o (done_seen r) (boundary c τ)) (passing_ends c p h);
+  unfound = λ t i x τ. refl;
+  unseen = λ name c t i x τ. refl;
 }

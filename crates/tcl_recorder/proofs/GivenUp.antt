@@ -4,7 +4,7 @@ use Rattle.tcl_core.specs.Programs.{Prog, Table, Wait}
 use Rattle.tcl_core.specs.Execution.{Crossings}
 use Rattle.tcl_core.specs.Trees.{Event, Tree}
 use Rattle.tcl_partial_runs.specs.Beginnings.{Begun}
-use Rattle.tcl_partial_runs.specs.Beginnings.Begun.{stopped, ended, acted, going, went, within, wrapped, too_deep, calling_out, calling, returning, called, unreached, called_out, answered, heard, entering_in, leaving, left, entered}
+use Rattle.tcl_partial_runs.specs.Beginnings.Begun.{stopped, ended, acted, going, went, within, wrapped, too_deep, calling_out, calling, returning, called, unreached, called_out, answered, heard, missed, entering_in, leaving, left, entered, unfound}
 use Rattle.tcl_run.specs.Outsides.{Going}
 use Rattle.tcl_tree.specs.Own.{Own}
 use Rattle.tcl_recorder.specs.Recording.{recorded}
@@ -31,10 +31,12 @@ module _ {O I S R : Type 0} (step : Tree O → S → Wait → Event O → S → 
   begun_along (called_out up s b) = called_out up (along _ _ _ _ _ s) (begun_along b)
   begun_along (answered up fit s b) = answered up fit (along _ _ _ _ _ s) (begun_along b)
   begun_along (heard up fit s b) = heard up fit (along _ _ _ _ _ s) (begun_along b)
-  begun_along (entering_in t i up s1 b) = entering_in t i up (along _ _ _ _ _ s1) (begun_along b)
-  begun_along (leaving t i up s1 run) = leaving t i up (along _ _ _ _ _ s1) (comes_along step goes f along prog run)
-  begun_along (left t i up s1 run s2) = left t i up (along _ _ _ _ _ s1) (comes_along step goes f along prog run) (along _ _ _ _ _ s2)
-  begun_along (entered t i up s1 run s2 stays b) = entered t i up (along _ _ _ _ _ s1) (comes_along step goes f along prog run) (along _ _ _ _ _ s2) stays (begun_along b)
+  begun_along (missed up fit s b) = missed up fit (along _ _ _ _ _ s) (begun_along b)
+  begun_along (entering_in t i up here s1 b) = entering_in t i up here (along _ _ _ _ _ s1) (begun_along b)
+  begun_along (leaving t i up here s1 run) = leaving t i up here (along _ _ _ _ _ s1) (comes_along step goes f along prog run)
+  begun_along (left t i up here s1 run s2) = left t i up here (along _ _ _ _ _ s1) (comes_along step goes f along prog run) (along _ _ _ _ _ s2)
+  begun_along (entered t i up here s1 run s2 stays b) = entered t i up here (along _ _ _ _ _ s1) (comes_along step goes f along prog run) (along _ _ _ _ _ s2) stays (begun_along b)
+  begun_along (unfound t i up here s b) = unfound t i up here (along _ _ _ _ _ s) (begun_along b)
 
 pub given_up_unwatched : {I S : Type 0} (goes : Going S) (prog : Table Own I) (T : Tree Own) (o z : Recorder S) (p : Place) (x : Prog Own I) →
     Begun (Crossings (recorded goes)) prog T o p x z → Begun (Crossings goes) prog T o.outside p x z.outside

@@ -2,6 +2,7 @@ pub mod Boundaries
 pub mod BoundaryLaws
 pub mod Fates
 pub mod GivenUp
+pub mod Meeting
 pub mod Notes
 pub mod Recorders
 pub mod Visits

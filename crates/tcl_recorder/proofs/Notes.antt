@@ -10,9 +10,13 @@ use Rattle.tcl_tree.specs.Own.{Own}
 use Rattle.tcl_recorder.specs.Boundary.{at_passing, back_seen, boundary, done_seen, in_seen, out_seen, passing}
 use Rattle.tcl_recorder.specs.Laws.{IsNoCrossing}
 use Rattle.tcl_recorder.specs.Records.{RecordView, longer}
-use Rattle.tcl_recorder.specs.Recording.{crossed}
+use Rattle.tcl_recorder.specs.Recording.{after, crossed}
 use Rattle.tcl_recorder.proofs.BoundaryLaws.{no_crossing}
 use Rattle.tcl_recorder.proofs.Boundaries.{boundary_back, boundary_done, boundary_in, boundary_out}
+
+-- nothing adds nothing
+pub after_none : (r : RecordView) → r ≡ after r []
+after_none r = ap (λ (xs : List (Event Own)). record { watched = r.watched; crossings = xs }) (sym (append-nil r.crossings))
 
 -- what is no crossing adds nothing
 pub unchanged : (r : RecordView) (ev : Event Own) → IsNoCrossing ev.what → r ≡ crossed r ev

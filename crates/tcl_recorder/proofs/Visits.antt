@@ -1,27 +1,27 @@
 -- Entries from outside of the tree, with what happens in them.
-use Rattle.std.proofs.Common.{◌≡◌, false, List, [], ◌∷◌, ◌++◌, Some, None, refl, sym, ◌∙◌, ap, subst, append_assoc}
+use Rattle.std.proofs.Common.{◌≡◌, Bool, true, false, List, [], ◌∷◌, ◌++◌, Some, None, refl, sym, ◌∙◌, ap, subst}
 use Rattle.tcl_core.specs.Endings.{Reply}
 use Rattle.tcl_core.specs.Entries.{Entry}
 use Rattle.tcl_core.specs.Paths.{Place}
 use Rattle.tcl_core.specs.Programs.{Prog, Table, Wait}
 use Rattle.tcl_core.specs.Rules.{Derives}
-use Rattle.tcl_core.specs.Runs.{Runs, Visits, entering}
+use Rattle.tcl_core.specs.Runs.{Runs, Visits}
 use Rattle.tcl_core.specs.Execution.{Chain, Crossings, Executes, before, event, more, none}
-use Rattle.tcl_core.specs.Trees.{Event, Tree}
+use Rattle.tcl_core.specs.Trees.{Event, Node, Tree}
 use Rattle.tcl_core.specs.Trees.What.{In, Done}
-use Rattle.tcl_core.proofs.Callers.{entering_calls, fit}
+use Rattle.tcl_core.proofs.Callers.{fit}
 use Rattle.tcl_core.proofs.Following.{Says, ahead, ahead-all, ahead-append, ahead_later, called_on, chain-append, follows, later, nothing}
 use Rattle.tcl_core.proofs.RuleLaws.{derived_runs}
 use Rattle.tcl_run.specs.Outsides.{Going}
 use Rattle.tcl_tree.specs.Own.{Own}
-use Rattle.tcl_recorder.specs.Boundary.{boundary}
 use Rattle.tcl_recorder.specs.Laws.{KeepsAll, WatchedEntry, WatchedVisit, visit}
 use Rattle.tcl_recorder.specs.Records.{RecordView}
-use Rattle.tcl_recorder.specs.Recording.{after, crossed, noted, recorded}
+use Rattle.tcl_recorder.specs.Recording.{after, fallen_after, falls, noted, noted_in, recorded, told_of, while_there}
 use Rattle.tcl_recorder.specs.declared.recorder.Recorder.{Recorder}
-use Rattle.tcl_recorder.proofs.BoundaryLaws.{boundary_append}
-use Rattle.tcl_recorder.proofs.Fates.{fate_parts}
-use Rattle.tcl_recorder.proofs.Watched.{after_one, watched}
+use Rattle.tcl_recorder.proofs.Fates.{fate_parts, there_parts}
+use Rattle.tcl_recorder.proofs.Meeting.{AreMet, met_front, visit_met}
+use Rattle.tcl_recorder.proofs.Notes.{after_none}
+use Rattle.tcl_recorder.proofs.Watched.{after_parts, told_there, watched}
 
 -- What is a run for every rest of its tape is one before this rest.
 runs_before : {I S : Type 0} (step : Tree Own → S → Wait → Event Own → S → Type 0) (prog : Table Own I) {T V : Tree Own} {o z : S} {p : Place} {x : Prog Own I} {r : Reply} (h : Says step prog T o p x V z r) (tail : List (Event Own)) →
@@ -35,9 +35,11 @@ runs_before step prog {T} {V} {o} {z} {p} {x} {r} h tail =
     derived_runs prog over
 
 -- So its entry is a visit.
-pub visits : {I S : Type 0} (step : Tree Own → S → Wait → Event Own → S → Type 0) (prog : Table Own I) {T V : Tree Own} {o z : S} (t : Place) (i : Entry) {r : Reply} (h : Says step prog T o t (entering prog (T t) i) V z r) →
+pub visits : {I S : Type 0} (step : Tree Own → S → Wait → Event Own → S → Type 0) (prog : Table Own I) {T V : Tree Own} {o z : S} (t : Place) (i : Entry) {r : Reply} (node : Node Own) (there : T t ≡ Some node) (h : Says step prog T o t (prog.entry i) V z r) →
     Visits prog (Runs prog) (before T (visit t i h.events r)) None t i (before V []) (Some r)
-visits step prog {T} {V} {o} {z} t i {r} h = record {
+visits step prog {T} {V} {o} {z} t i {r} node there h = record {
+  node = node;
+  stands = there;
   entered = before T (h.events ++ event t (Done None r) ∷ []);
   left = before V (event t (Done None r) ∷ []);
   entry = record { tape = refl; tree = refl; moves = refl; grants = refl };
@@ -45,42 +47,66 @@ visits step prog {T} {V} {o} {z} t i {r} h = record {
   leaving = record { tape = refl; tree = refl; moves = refl; grants = refl };
 }
 
-pub after_parts : (r : RecordView) (σ τ : List (Event Own)) → after (after r σ) τ ≡ after r (σ ++ τ)
-after_parts r σ τ = ap (λ (xs : List (Event Own)). record { watched = r.watched; crossings = xs })
-    (append_assoc r.crossings (boundary r.watched σ) (boundary r.watched τ) ∙ ap (λ xs. r.crossings ++ xs) (sym (boundary_append r.watched σ τ)))
+-- the record of a visit
+there_visit : (b : Bool) (c : Place) (t : Place) (i : Entry) (τ : List (Event Own)) (r : Reply) →
+    while_there b c (visit t i τ r) ≡ while_there b c (event t (In None i) ∷ []) ++ (while_there b c τ ++ while_there (fallen_after b c τ) c (event t (Done None r) ∷ []))
+there_visit b c t i τ r = there_parts b c (event t (In None i) ∷ []) (τ ++ event t (Done None r) ∷ []) ∙ ap (λ l. while_there b c (event t (In None i) ∷ []) ++ l) (still b)
+  where
+    still : (b : Bool) → while_there (fallen_after b c (event t (In None i) ∷ [])) c (τ ++ event t (Done None r) ∷ []) ≡ while_there b c τ ++ while_there (fallen_after b c τ) c (event t (Done None r) ∷ [])
+    still b = there_parts b c τ (event t (Done None r) ∷ [])
+
+noted_there : (b : Bool) (r : RecordView) (ev : Event Own) → falls r.watched ev ≡ false → noted_in b r ev ≡ after r (while_there b r.watched (ev ∷ []))
+noted_there true r ev f = after_none r
+noted_there false r ev f = ap (λ a. after r (ev ∷ while_there a r.watched [])) (sym f)
 
 module _ {I S : Type 0} (goes : Going S) (prog : Table Own I) (T V : Tree Own) where
-  pub watched_visit : (o u w z : Recorder S) (t : Place) (i : Entry) (r : Reply) →
-      recorded goes T o None (event t (In None i)) u → Executes (Crossings (recorded goes)) prog T u t (entering prog (T t) i) V w r → recorded goes V w None (event t (Done None r)) z →
+  pub watched_visit : (o u w z : Recorder S) (t : Place) (i : Entry) (r : Reply) (node : Node Own) → T t ≡ Some node →
+      recorded goes T o None (event t (In None i)) u → Executes (Crossings (recorded goes)) prog T u t (prog.entry i) V w r → recorded goes V w None (event t (Done None r)) z →
       WatchedVisit goes prog T o t i V z r
-  watched_visit o u w z t i r enters run leaves =
-      let x : Prog Own I = entering prog (T t) i in
-      let calls = entering_calls prog (T t) i in
+  watched_visit o u w z t i r node there enters run leaves =
+      let x : Prog Own I = prog.entry i in
+      let calls = prog.entries_call i in
       let made = follows (Crossings (recorded goes)) prog (fit x calls) run in
       let told = called_on (Crossings (recorded goes)) x calls (made.chain []) in
       let entry : Crossings (recorded goes) T o None (event t (In None i)) u = record { told = enters } in
       let end : Crossings (recorded goes) V w None (event t (Done None r)) z = record { told = leaves } in
       let chain : Chain (Crossings (recorded goes)) [] T o (visit t i made.events r) [] V z = more entry (chain-append (Crossings (recorded goes)) told (more end none)) in
       let all = watched goes [] [] T V o z (visit t i made.events r) chain in
-      let kept : KeepsAll o (visit t i made.events r) z = all.keeps (leaves.ends tt) in
-      record { events = made.events; visits = visits (Crossings (recorded goes)) prog t i made; outside = all.outside; kept = kept.kept; fate = kept.fate }
+      let kept : KeepsAll T o (visit t i made.events r) z = all.keeps (leaves.ends tt) in
+      let seen = visits (Crossings (recorded goes)) prog t i node there made in
+      let met_all : AreMet T (visit t i made.events r) = visit_met prog (before T (visit t i made.events r)) t i (before V []) r seen tt in
+      record { events = made.events; visits = seen; outside = all.outside; kept = kept.kept ∙ ap (after o.kept) (told_there o.deleted o.kept.watched T (visit t i made.events r) met_all); fate = kept.fate }
 
-  pub watched_entry : (o w : Recorder S) (t : Place) (i : Entry) (r : Reply) → w.incomplete ≡ false →
-      Executes (Crossings (recorded goes)) prog T (noted o (event t (In None i))) t (entering prog (T t) i) V w r →
+  pub watched_entry : (o w : Recorder S) (t : Place) (i : Entry) (r : Reply) (node : Node Own) → T t ≡ Some node → w.incomplete ≡ false →
+      Executes (Crossings (recorded goes)) prog T (noted o (event t (In None i))) t (prog.entry i) V w r →
       WatchedEntry goes prog T o t i V (noted w (event t (Done None r))) r
-  watched_entry o w t i r whole run =
-      let x : Prog Own I = entering prog (T t) i in
-      let calls = entering_calls prog (T t) i in
+  watched_entry o w t i r node there whole run =
+      let x : Prog Own I = prog.entry i in
+      let calls = prog.entries_call i in
       let made = follows (Crossings (recorded goes)) prog (fit x calls) run in
       let told = called_on (Crossings (recorded goes)) x calls (made.chain []) in
-      let first = event t (In None i) in
-      let last = event t (Done None r) in
+      let first : Event Own = event t (In None i) in
+      let last : Event Own = event t (Done None r) in
       let all = watched goes [] [] T V (noted o first) w made.events told in
-      let so : KeepsAll (noted o first) made.events w = all.keeps whole in
+      let so : KeepsAll T (noted o first) made.events w = all.keeps whole in
+      let seen = visits (Crossings (recorded goes)) prog t i node there made in
+      let met_all : AreMet T (visit t i made.events r) = visit_met prog (before T (visit t i made.events r)) t i (before V []) r seen tt in
+      let met_within : AreMet T made.events = met_front T made.events (last ∷ []) met_all.1 in
+      let c : Place = o.kept.watched in
+      let begun : noted_in o.deleted o.kept first ≡ after o.kept (while_there o.deleted c (first ∷ [])) = noted_there o.deleted o.kept first refl in
+      let going : w.kept ≡ after (after o.kept (while_there o.deleted c (first ∷ []))) (while_there o.deleted c made.events) =
+      so.kept ∙ ap (λ (k : RecordView). after k (told_of o.deleted k.watched T made.events)) begun
+      ∙ ap (after (after o.kept (while_there o.deleted c (first ∷ [])))) (told_there o.deleted c T made.events met_within) in
+      let fate : w.deleted ≡ fallen_after o.deleted c made.events = so.fate ∙ ap (λ (k : RecordView). fallen_after o.deleted k.watched made.events) begun in
       record {
         events = made.events;
-        visits = visits (Crossings (recorded goes)) prog t i made;
+        visits = seen;
         outside = all.outside;
-        kept = ap (λ k. crossed k last) so.kept ∙ after_parts (crossed o.kept first) made.events (last ∷ []) ∙ after_one o.kept first (made.events ++ last ∷ []);
-        fate = so.fate ∙ sym (fate_parts o.deleted o.kept.watched made.events (last ∷ []));
+        kept = noted_there w.deleted w.kept last refl
+            ∙ ap (λ (k : RecordView). after k (while_there w.deleted k.watched (last ∷ []))) going
+            ∙ ap (λ b. after (after (after o.kept (while_there o.deleted c (first ∷ []))) (while_there o.deleted c made.events)) (while_there b c (last ∷ []))) fate
+            ∙ after_parts (after o.kept (while_there o.deleted c (first ∷ []))) (while_there o.deleted c made.events) (while_there (fallen_after o.deleted c made.events) c (last ∷ []))
+            ∙ after_parts o.kept (while_there o.deleted c (first ∷ [])) (while_there o.deleted c made.events ++ while_there (fallen_after o.deleted c made.events) c (last ∷ []))
+            ∙ sym (ap (after o.kept) (there_visit o.deleted c t i made.events r));
+        fate = fate ∙ sym (fate_parts o.deleted c made.events (last ∷ []));
       }

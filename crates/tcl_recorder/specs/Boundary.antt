@@ -2,19 +2,23 @@
 use Rattle.std.specs.Prelude.{List, [], ◌∷◌, Option, Some, None}
 use Rattle.tcl_core.specs.Entries.{Answer, Entry}
 use Rattle.tcl_core.specs.Endings.{Reply}
+use Rattle.tcl_core.specs.Endings.Reply.{Completed}
+use Rattle.tcl_core.specs.Execution.{event}
 use Rattle.tcl_core.specs.Lives.{put}
 use Rattle.tcl_core.specs.Paths.{Path, Place, Height, strip, rise_to}
 use Rattle.tcl_core.specs.Trees.{Event, What, seen_answer, seen_reply}
-use Rattle.tcl_core.specs.Trees.What.{Out, In, Done, Back}
+use Rattle.tcl_core.specs.Trees.What.{Out, In, Done, Back, Unfound}
 use Rattle.tcl_core.specs.Views.{view}
 
 module _ {O : Type 0} where
-  -- a crossing that passes the top, in front of those that come later
+  -- a crossing that passes the top, in front of those that come later; an entry that finds nobody is
+  -- two, itself and its end
   abbrev pub past : Place → What O → List (Event O) → List (Event O)
   past p (Out h down i) τ = put (rise_to h p) p (Out h down i) τ
   past p (Back h a) τ = put (rise_to h p) p (Back h a) τ
   past p (In h i) τ = put (rise_to h p) p (In h i) τ
   past p (Done h r) τ = put (rise_to h p) p (Done h r) τ
+  past p (Unfound t i c) τ = event t (In None i) ∷ event t (Done None (Completed c)) ∷ τ
   past p _ τ = τ
 
   -- the crossings between a tree and what is outside it

@@ -5,7 +5,7 @@ use Rattle.tcl_core.specs.Endings as core
 use Rattle.tcl_core.specs.Endings.Cause.{Above}
 use Rattle.tcl_core.specs.Endings.Reply.{Completed, Exit, Cut}
 use Rattle.tcl_core.specs.Entries as entries
-use Rattle.tcl_core.specs.Entries.Answer.{Replied, Heard}
+use Rattle.tcl_core.specs.Entries.Answer.{Replied, Heard, Nobody}
 use Rattle.tcl_core.specs.Execution.{event}
 use Rattle.tcl_core.specs.Trees.{Event}
 use Rattle.tcl_core.specs.Trees.What.{Out, In, Done, Back}
@@ -31,6 +31,7 @@ reply_of reply.Ended = Cut Above
 abbrev pub answer_of : Answer → entries.Answer
 answer_of (answer.Replied r) = Replied (reply_of r)
 answer_of (answer.Heard r) = Heard (outsides.reply_of r)
+answer_of answer.Nobody = Nobody
 
 abbrev pub event_of : Crossing → Event Own
 event_of (crossing.In target entry) = event target.items (In None (whole_entry entry))

@@ -1,17 +1,18 @@
 -- What contracts see of a record, and how a recorder goes.
-use Rattle.std.specs.Prelude.{◌≡◌, Bool, true, false, List, [], ◌∷◌, ◌++◌, Option, Some, None}
+use Rattle.std.specs.Prelude.{◌≡◌, ℕ, Bool, true, false, List, [], ◌∷◌, ◌++◌, Option, Some, None}
 use Rattle.std.specs.Prelude.{Result, Ok, Err}
 use Rattle.tcl_core.specs.Endings.{ok}
 use Rattle.tcl_core.specs.Endings.Reply.{Completed}
-use Rattle.tcl_core.specs.Entries.Answer.{Replied, Heard}
+use Rattle.tcl_core.specs.Entries.{Answer}
+use Rattle.tcl_core.specs.Entries.Answer.{Replied, Heard, Nobody}
 use Rattle.tcl_core.specs.Paths.{Path, Place, Height, strip}
 use Rattle.tcl_core.specs.Programs.{Wait, either}
 use Rattle.tcl_core.specs.Execution.{event}
-use Rattle.tcl_core.specs.Trees.{Event, Tree, What}
+use Rattle.tcl_core.specs.Trees.{Event, Node, Tree, What, effect}
 use Rattle.tcl_core.specs.Trees.What.{Dropped, In, Done, Back}
 use Rattle.tcl_run.specs.Ends.{Interrupts}
 use Rattle.tcl_run.specs.Entering.{whole_entry}
-use Rattle.tcl_run.specs.Outsides.{Going, reply_of}
+use Rattle.tcl_run.specs.Outsides.{Going, reply_of, told_to}
 use Rattle.tcl_run.specs.declared.interruption.Interruption.{Interruption}
 use Rattle.tcl_run.specs.declared.outside.Turn.{Turn}
 use Rattle.tcl_run.specs.declared.outside.Turn.TheVariants as turn
@@ -44,11 +45,41 @@ abbrev pub fallen_after : Bool → Place → List (Event Own) → Bool
 fallen_after b c [] = b
 fallen_after b c (ev ∷ τ) = fallen_after (either (falls c ev) b) c τ
 
--- What is recorded of a happening, where nothing was missing before: what crosses the boundary, and
--- whether the watched interpreter is dropped.
-pub record Keeps {S : Type 0} (o : Recorder S) (ev : Event Own) (z : Recorder S) : Type 0 where
+-- ## Of what happens
+
+-- An entry from outside is met where somebody stands at its path. (Of one that finds nobody an
+-- outside is told as it is handed in, and again as it is told so: it is recorded then.)
+abbrev pub met_by : What Own → Option (Node Own) → Place → List (Event Own)
+met_by (In None i) None p = []
+met_by x n p = event p x ∷ []
+
+abbrev pub met : Tree Own → Event Own → List (Event Own)
+met T ev = met_by ev.what (T ev.place) ev.place
+
+-- what is noted of a happening: nothing once the watched interpreter was dropped
+abbrev pub noted_of : Bool → Tree Own → Event Own → List (Event Own)
+noted_of true T ev = []
+noted_of false T ev = met T ev
+
+-- the same of all these happenings, from a tree on
+abbrev pub told_of : Bool → Place → Tree Own → List (Event Own) → List (Event Own)
+told_of b c T [] = []
+told_of b c T (ev ∷ τ) = noted_of b T ev ++ told_of (either (falls c ev) b) c
+    (effect ev.place ev.what T) τ
+
+-- Those of them up to which the interpreter at c is there: all, where it isn't dropped; none, where
+-- it was before.
+abbrev pub while_there : Bool → Place → List (Event Own) → List (Event Own)
+while_there true c τ = []
+while_there false c [] = []
+while_there false c (ev ∷ τ) = ev ∷ while_there (falls c ev) c τ
+
+-- What is recorded of a happening, where nothing was missing before: what crosses the boundary, as
+-- long as the watched interpreter is there; and whether it is dropped.
+pub record Keeps {S : Type 0} (T : Tree Own) (o : Recorder S) (ev : Event Own) (z : Recorder S) :
+    Type 0 where
   pub whole : o.incomplete ≡ false
-  pub kept : z.kept ≡ crossed o.kept ev
+  pub kept : z.kept ≡ after o.kept (noted_of o.deleted T ev)
   pub fate : z.deleted ≡ either (falls o.kept.watched ev) o.deleted
 
 -- an entry from outside of the tree is done
@@ -62,27 +93,39 @@ IsLeft x = Prim.⊥
 pub record Records {S : Type 0} (goes : Going S) (T : Tree Own) (o : Recorder S) (s : Wait)
     (ev : Event Own) (z : Recorder S) : Type 0 where
   pub outside : goes T o.outside s ev z.outside
-  pub keeps : z.incomplete ≡ false → Keeps o ev z
+  pub keeps : z.incomplete ≡ false → Keeps T o ev z
   pub ends : IsLeft ev.what → z.incomplete ≡ false
 
 abbrev pub recorded : {S : Type 0} → Going S → Going (Recorder S)
 recorded goes T o s ev z = Records goes T o s ev z
 
+-- the record after a crossing, where the watched interpreter was dropped or wasn't
+abbrev pub noted_in : Bool → RecordView → Event Own → RecordView
+noted_in true r ev = r
+noted_in false r ev = crossed r ev
+
 -- the recorder after a crossing of which the outside that it holds isn't told
 abbrev pub noted : {S : Type 0} → Recorder S → Event Own → Recorder S
 noted o ev = record {
   outside = o.outside;
-  kept = crossed o.kept ev;
+  kept = noted_in o.deleted o.kept ev;
   deleted = o.deleted;
   incomplete =
       o.incomplete;
 }
 
--- what is recorded of what comes next to an open call
-abbrev pub Turns : RecordView → Path → Height → Result Turn Interruption → RecordView → Type 0
-Turns r p h (Ok (turn.Entry target entry)) s = s
-    ≡ crossed r (event target.items (In None (whole_entry entry)))
-Turns r p h (Ok (turn.Completed text)) s = s
-    ≡ crossed r (event p (Back h (Replied (Completed (ok text)))))
-Turns r p h (Ok (turn.Heard reply)) s = s ≡ crossed r (event p (Back h (Heard (reply_of reply))))
-Turns r p h (Err e) s = Interrupts e (λ x. s ≡ crossed r (event p (Back h (Replied x))))
+-- ## Of what comes next to an open call
+
+-- what its caller is told for an answer, where it is gone or isn't
+abbrev pub HasCome : RecordView → Path → Option ℕ → Height → Answer → RecordView → Type 0
+HasCome r p gone h a s = s ≡ crossed r (event p (Back h (told_to gone a)))
+
+abbrev pub Turns : RecordView → Tree Own → Path → Option ℕ → Height → Result Turn Interruption →
+    RecordView → Type 0
+Turns r T p gone h (Ok (turn.Entry target entry)) s = s
+    ≡ after r (met T (event target.items (In None (whole_entry entry))))
+Turns r T p gone h (Ok (turn.Completed text)) s = HasCome r p gone h (Replied (Completed (ok text)))
+    s
+Turns r T p gone h (Ok (turn.Heard reply)) s = HasCome r p gone h (Heard (reply_of reply)) s
+Turns r T p gone h (Ok turn.Nobody) s = HasCome r p gone h Nobody s
+Turns r T p gone h (Err e) s = Interrupts e (λ x. HasCome r p gone h (Replied x) s)

@@ -10,7 +10,7 @@ ghost use Rattle.tcl_run.specs.Ends.{IfEnded, Interrupts};
 
 use std::alloc::AllocError;
 use tcl_flow::completion::{self, Completion, Options};
-use tcl_flow::stop::Stop;
+use tcl_flow::stop::{Stop, StopKind};
 use tcl_host::reply::HostReply;
 use tcl_run::entry::Entry;
 use tcl_run::interruption::Interruption;
@@ -22,11 +22,12 @@ use tcl_value::value::Value;
 pub enum Reply {
     /// By a completion.
     Completed(Completion),
-    /// By a stop, which names the watched interpreter or one below it.
+    /// By a stop, which names the watched interpreter or one below it. Where one above it is gone the
+    /// stop names the watched one, which is gone with it.
     Stopped(Stop),
     /// By the exit of the whole run.
     Exited(i64),
-    /// It was ended from outside the watched interpreter, as by a stop that names one above it.
+    /// It was ended from outside the watched interpreter, as by a stop for a limit of one above it.
     Ended,
 }
 
@@ -37,6 +38,8 @@ pub enum Answer {
     Replied(Reply),
     /// What the host said to a request.
     Heard(HostReply),
+    /// Nobody was there who could have answered it.
+    Nobody,
 }
 
 /// What crosses the boundary of an interpreter. Paths lead from it downward.
@@ -144,10 +147,16 @@ impl Reply {
     fn of_stop(stop: Stop, path: &[Text]) -> Reply
         ensures { reply_of result ≡ seen_reply path.now (stopping.reply_of stop) }
     {
-        if stop.levels_up > path.len() {
-            return Reply::Ended;
+        if stop.levels_up <= path.len() {
+            return Reply::Stopped(stop);
         }
-        Reply::Stopped(stop)
+        match stop.kind {
+            StopKind::Gone => Reply::Stopped(Stop {
+                levels_up: path.len(),
+                kind: StopKind::Gone,
+            }),
+            StopKind::Count | StopKind::Depth => Reply::Ended,
+        }
     }
 
     /// How the end of an evaluation at this path is told that has no ordinary result.

@@ -4,7 +4,7 @@ ghost use Rattle.tcl_recorder.specs.Laws.{BoundaryCrossings, BoundaryMoves, Boun
 ghost use Rattle.tcl_recorder.specs.Laws.{BoundaryParts, EntriesAreWatched, FateParts};
 ghost use Rattle.tcl_recorder.specs.Laws.{FatesAreTold, GivenUpUnwatched, OneEnd};
 ghost use Rattle.tcl_recorder.specs.Laws.{RecordsTheBoundary, RunsAreWatched, RunsUnwatched};
-ghost use Rattle.tcl_recorder.specs.Laws.{VisitsAreWatched};
+ghost use Rattle.tcl_recorder.specs.Laws.{UpToTheDrop, VisitsAreWatched};
 
 use tcl_run::outside::Outside;
 
@@ -29,7 +29,8 @@ pub fn boundary_crossings<O>()
     ensures { BoundaryCrossings O }
 {}
 
-/// The crossings in a boundary are those with exactly one end in its subtree.
+/// The crossings in a boundary are those with exactly one end in its subtree; in that of the whole
+/// tree there are entries besides that find nobody.
 pub fn one_end<O>()
     ensures { OneEnd O }
 {}
@@ -45,15 +46,21 @@ pub fn fate_parts()
     ensures { FateParts }
 {}
 
-/// What happens while an outside is recorded takes the outside as if nobody recorded it, and where
-/// nothing is missing from the record, adds its boundary to that and tells whether the watched
-/// interpreter was dropped.
+/// What happens while an interpreter is there is all, where it isn't dropped; else what happens up to
+/// where first it is dropped, or one above it.
+pub fn up_to_the_drop()
+    ensures { UpToTheDrop }
+{}
+
+/// What happens while an outside is recorded takes the outside as if nobody recorded it. Where
+/// nothing is missing from the record, its boundary is added to that up to where the watched
+/// interpreter is dropped, and it is told whether it was.
 pub fn records_the_boundary<O: Outside>()
     ensures { RecordsTheBoundary O.goes }
 {}
 
-/// A run with a recorder is a run over a tape whose boundary is added to the record, and which
-/// tells whether the watched interpreter was dropped.
+/// A run with a recorder is a run over a tape whose boundary is added to the record, up to where the
+/// watched interpreter is dropped; and it is told whether it was.
 pub fn runs_are_watched<O: Outside, I>()
     ensures { RunsAreWatched I O.goes }
 {}
@@ -69,7 +76,8 @@ pub fn given_up_unwatched<O: Outside, I>()
 {}
 
 /// An entry from outside of the tree that a recorder is told of, with all that happens in it, is a
-/// visit over a tape whose boundary is added to the record.
+/// visit over a tape whose boundary is added to the record, up to where the watched interpreter is
+/// dropped.
 pub fn visits_are_watched<O: Outside, I>()
     ensures { VisitsAreWatched I O.goes }
 {}

@@ -1,25 +1,30 @@
 //! The record of one boundary.
 ghost use Rattle.std.specs.Prelude.{◌≡◌, ◌++◌, [], Some, None, OnOk, length};
 ghost use Rattle.tcl_core.specs.Endings.{ok};
+ghost use Rattle.tcl_core.specs.Endings as endings;
+ghost use Rattle.tcl_core.specs.Endings.Kind.{Gone};
 ghost use Rattle.tcl_core.specs.Endings.Reply.{Completed, Exit};
-ghost use Rattle.tcl_core.specs.Entries.Answer.{Replied, Heard};
+ghost use Rattle.tcl_core.specs.Entries.Answer.{Replied, Heard, Nobody};
 ghost use Rattle.tcl_core.specs.Paths.{Path, rise_to};
 ghost use Rattle.tcl_core.specs.Execution.{event};
 ghost use Rattle.tcl_core.specs.Trees.{seen_reply};
-ghost use Rattle.tcl_core.specs.Trees.What.{Dropped, Out, In, Done, Back};
+ghost use Rattle.tcl_core.specs.Trees.What.{Dropped, Out, In, Done, Back, Unfound};
 ghost use Rattle.tcl_run.specs.Ends.{IfEnded, Interrupts};
 ghost use Rattle.tcl_run.specs.Entering.{whole_entry};
 ghost use Rattle.tcl_run.specs.Outsides as outsides;
+ghost use Rattle.tcl_tree.specs.TreeOf.{tree_of};
 
 use crate::crossing::{Answer, Crossing, Reply, copy_heard};
 use crate::passing::{arriving, below, passing, top_of_way};
 use std::alloc::{AllocError, Global};
 use std::marker::Model;
+use tcl_flow::stop::{Stop, StopKind};
 use tcl_host::reply::HostReply;
 use tcl_run::entry::Entry;
 use tcl_run::interruption::Interruption;
 use tcl_run::outside::Turn;
 use tcl_text::text::Text;
+use tcl_tree::tree::Tree;
 use tcl_value::value::Value;
 
 /// What crossed the boundary of one interpreter, in order.
@@ -42,7 +47,7 @@ impl Model for Record {
 impl Record {
     ghost use Rattle.tcl_recorder.specs.Crossings.{answer_of, events_of, reply_of};
     ghost use Rattle.tcl_recorder.specs.Records.{longer};
-    ghost use Rattle.tcl_recorder.specs.Recording.{Turns, crossed, falls};
+    ghost use Rattle.tcl_recorder.specs.Recording.{HasCome, Turns, after, crossed, falls, met};
 
     /// An empty record, of the interpreter at a path.
     pub(crate) fn new(alloc: Global, watched: Vec<Text>) -> Record
@@ -302,6 +307,22 @@ impl Record {
         }
     }
 
+    // That nobody is there who could answer a call comes back.
+    fn nobody_comes(
+        &mut self,
+        alloc: Global,
+        caller: &[Text],
+        up: Option<usize>,
+    ) -> Result<(), AllocError>
+        ensures { OnOk result
+            (self.new ≡ crossed self.old (event caller.now (Back up Nobody))) }
+    {
+        match passing(self.watched.as_slice(), caller, up) {
+            Some(path) => self.add_answer(alloc, path, up, Answer::Nobody),
+            None => Ok(()),
+        }
+    }
+
     /// The answer to a call comes back, by which it ended.
     ///
     /// # Errors
@@ -399,25 +420,165 @@ impl Record {
         self.answer_comes(alloc, caller, Some(up), told)
     }
 
-    /// What comes next to an open call comes.
+    // An entry comes from outside of the tree: where somebody stands at its path, it comes in.
+    fn entry_met(
+        &mut self,
+        alloc: Global,
+        tree: &Tree,
+        target: &[Text],
+        entry: &Entry,
+    ) -> Result<(), AllocError>
+        ensures { OnOk result
+            (self.new ≡ after self.old (met (tree_of tree.now)
+            (event target.now (In None (whole_entry entry.now))))) }
+    {
+        if !tree.exists(target) {
+            return Ok(());
+        }
+        self.entry_comes(alloc, target, entry)
+    }
+
+    // The stop comes to a call by which who is gone so many levels up is told an answer.
+    fn stop_comes(
+        &mut self,
+        alloc: Global,
+        caller: &[Text],
+        up: Option<usize>,
+        levels: usize,
+    ) -> Result<(), AllocError>
+        ensures { OnOk result
+            (self.new ≡ crossed self.old
+            (event caller.now (Back up (Replied (endings.Reply.Stop levels Gone))))) }
+    {
+        let stop = Interruption::Stopped(Stop {
+            levels_up: levels,
+            kind: StopKind::Gone,
+        });
+        self.interruption_comes(alloc, caller, up, &stop)
+    }
+
+    // The ordinary result of a call comes to its caller, which may be gone.
+    fn value_told(
+        &mut self,
+        alloc: Global,
+        caller: &[Text],
+        gone: Option<usize>,
+        up: Option<usize>,
+        value: &Value,
+    ) -> Result<(), AllocError>
+        ensures { OnOk result
+            (HasCome self.old caller.now gone up (Replied (Completed (ok value.now))) self.new) }
+    {
+        match gone {
+            Some(levels) => self.stop_comes(alloc, caller, up, levels),
+            None => self.value_comes(alloc, caller, up, value),
+        }
+    }
+
+    // The same of the host's reply to a request.
+    fn reply_told(
+        &mut self,
+        alloc: Global,
+        caller: &[Text],
+        gone: Option<usize>,
+        up: Option<usize>,
+        reply: &HostReply,
+    ) -> Result<(), AllocError>
+        ensures { OnOk result
+            (HasCome self.old caller.now gone up (Heard (outsides.reply_of reply.now)) self.new) }
+    {
+        match gone {
+            Some(levels) => self.stop_comes(alloc, caller, up, levels),
+            None => self.reply_comes(alloc, caller, up, reply),
+        }
+    }
+
+    // The same where nobody is there who could answer.
+    fn nobody_told(
+        &mut self,
+        alloc: Global,
+        caller: &[Text],
+        gone: Option<usize>,
+        up: Option<usize>,
+    ) -> Result<(), AllocError>
+        ensures { OnOk result (HasCome self.old caller.now gone up Nobody self.new) }
+    {
+        match gone {
+            Some(levels) => self.stop_comes(alloc, caller, up, levels),
+            None => self.nobody_comes(alloc, caller, up),
+        }
+    }
+
+    // The same of a call that has no ordinary result.
+    fn interruption_told(
+        &mut self,
+        alloc: Global,
+        caller: &[Text],
+        gone: Option<usize>,
+        up: Option<usize>,
+        interruption: &Interruption,
+    ) -> Result<(), AllocError>
+        ensures { OnOk result
+            (Interrupts interruption.now
+            (λ r. HasCome self.old caller.now gone up (Replied r) self.new)) }
+    {
+        let Some(levels) = gone else {
+            return self.interruption_comes(alloc, caller, up, interruption);
+        };
+        match interruption {
+            Interruption::Completed(_) => self.stop_comes(alloc, caller, up, levels),
+            _ => self.interruption_comes(alloc, caller, up, interruption),
+        }
+    }
+
+    /// What comes next to an open call comes. Its caller may be gone, so many levels up.
     ///
     /// # Errors
     /// Want of memory, that of the call too.
     pub(crate) fn turn_comes(
         &mut self,
         alloc: Global,
+        tree: &Tree,
         caller: &[Text],
+        gone: Option<usize>,
         up: Option<usize>,
         turn: &Result<Turn, Interruption>,
     ) -> Result<(), AllocError>
-        ensures { OnOk result (Turns self.old caller.now up turn.now self.new) }
+        ensures { OnOk result
+            (Turns self.old (tree_of tree.now) caller.now gone up turn.now self.new) }
     {
         match turn {
-            Ok(Turn::Entry(target, entry)) => self.entry_comes(alloc, target.as_slice(), entry),
-            Ok(Turn::Completed(value)) => self.value_comes(alloc, caller, up, value),
-            Ok(Turn::Heard(reply)) => self.reply_comes(alloc, caller, up, reply),
-            Err(interruption) => self.interruption_comes(alloc, caller, up, interruption),
+            Ok(Turn::Entry(target, entry)) => {
+                self.entry_met(alloc, tree, target.as_slice(), entry)
+            }
+            Ok(Turn::Completed(value)) => self.value_told(alloc, caller, gone, up, value),
+            Ok(Turn::Heard(reply)) => self.reply_told(alloc, caller, gone, up, reply),
+            Ok(Turn::Nobody) => self.nobody_told(alloc, caller, gone, up),
+            Err(interruption) => self.interruption_told(alloc, caller, gone, up, interruption),
         }
+    }
+
+    /// An entry from outside of the tree found nobody at its path, and was told that: of the whole
+    /// tree it is recorded, with its end.
+    ///
+    /// # Errors
+    /// Want of memory, that of the evaluation too.
+    pub(crate) fn stray_comes(
+        &mut self,
+        alloc: Global,
+        target: &[Text],
+        entry: &Entry,
+        told: &Result<Value, Interruption>,
+    ) -> Result<(), AllocError>
+        ensures { OnOk result
+            (IfEnded told.now (λ r. (c : endings.Completion) → r ≡ Completed c → self.new
+            ≡ crossed self.old (event [] (Unfound target.now (whole_entry entry.now) c)))) }
+    {
+        if !self.watched.is_empty() {
+            return Ok(());
+        }
+        self.add_entry(alloc, target, entry)?;
+        self.add_end(alloc, target, told)
     }
 
     /// The call of an interpreter ends by the exit by which an entry of it ended.

@@ -15,7 +15,7 @@ use tcl_tree::tree::{Place, Tree};
 use tcl_value::value::Value;
 
 /// An outside that records what crosses the boundary of one interpreter, and whether that one was
-/// dropped.
+/// dropped: from then on nothing more is recorded.
 ///
 /// Where memory is wanted to record what the outside that it holds has answered, or handed in,
 /// that is passed on nevertheless, since the outside is past it. From then on the record is
@@ -115,6 +115,9 @@ impl<O: Outside> Recorder<O> {
             (self.new ≡ noted self.old (event target.now (In None (whole_entry entry.now)))) }
         ensures outside { self.new.outside ≡ self.old.outside }
     {
+        if self.deleted {
+            return Ok(());
+        }
         self.kept.entry_comes(alloc, target, entry)
     }
 
@@ -131,6 +134,9 @@ impl<O: Outside> Recorder<O> {
         ensures { OnOk result
             (IfEnded ended.now (λ r. self.new ≡ noted self.old (event target.now (Done None r)))) }
     {
+        if self.deleted {
+            return Ok(());
+        }
         self.kept.entry_ends(alloc, target, ended)
     }
 }
@@ -171,6 +177,9 @@ impl<O: Outside> Outside for Recorder<O> {
     ) -> Result<(), AllocError> {
         self.goes_on()?;
         self.outside.notify(alloc, tree, happening)?;
+        if self.deleted {
+            return Ok(());
+        }
         match happening {
             Happening::Dropped { parent, name } => self.note_drop(alloc, tree, parent, name),
             Happening::Entered {
@@ -215,6 +224,11 @@ impl<O: Outside> Outside for Recorder<O> {
                 self.kept.call_goes(alloc, path.as_slice(), up, down, entry)
             }
             Happening::EntryDone { target, ended } => self.kept.entry_ends(alloc, target, ended),
+            Happening::Unfound {
+                target,
+                entry,
+                told,
+            } => self.kept.stray_comes(alloc, target, entry, told),
             Happening::ExitCameBack {
                 caller,
                 up,
@@ -236,9 +250,15 @@ impl<O: Outside> Outside for Recorder<O> {
         entry: &Entry,
     ) -> Result<Turn, Interruption> {
         self.goes_on()?;
+        if self.deleted {
+            return self.outside.next(alloc, tree, caller, up, entry);
+        }
         let path = tree.path_of(alloc, caller)?;
+        let gone = tree.is_gone(caller);
         let turn = self.outside.next(alloc, tree, caller, up, entry);
-        let noted = self.kept.turn_comes(alloc, path.as_slice(), up, &turn);
+        let noted = self
+            .kept
+            .turn_comes(alloc, tree, path.as_slice(), gone, up, &turn);
         self.incomplete = noted.is_err();
         turn
     }

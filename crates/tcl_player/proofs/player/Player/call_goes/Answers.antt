@@ -17,6 +17,6 @@ returns-clause-told c = λ p at up.
     let down : c.in_ok-from_clones.field-0.items ≡ c.args.down.now = c.in_ok-from_clones.ensures.items_if_clones_equal (λ x y h. h) in
     let entry : whole_entry c.in_ok-copy.field-0 ≡ whole_entry c.args.entry.now = c.in_ok-copy.ensures in
     let told = told_more c.push.new.self.items c.args.self.now.outs.items _ (event p (Out c.args.up c.args.down.now (whole_entry c.args.entry.now))) c.in_ok-push.ensures.items
-    (same_out c.args.up _ p _ c.args.down.now _ (whole_entry c.args.entry.now) (c.in_ok-path_of.ensures p at) down entry) in
+    (same_out c.args.up _ p _ c.args.down.now _ (whole_entry c.args.entry.now) (c.in_ok-path_of.ensures.named p at) down entry) in
     let o = player_of c.args.self.now in
     outer (rise_to c.args.up p) o _ _ up (told_on c.args.self.now.fate o _ _ (sym c.is_some.ensures ∙ c.if-is_some.false) (ap (λ outs. record { left = o.left; steps = o.steps; outs = outs; fate = o.fate }) told))
