@@ -182,7 +182,7 @@ evaluation::eval_command-returns-in_err-text-clause-runs g t c =
     ran_err c.from_residual-in_err-text.result c.in_err-text.field-0.0 p.0 _ _ _ p.1 p.2
     (stays_of c.eval_word.result c.in_err-text.field-0.0 (EndsFrom (ways g.O.Outside.goes g.O.Outside.loses) c.words.tree c.words.outside c.args.place (λ style. parts c.word-item.result.parts [] []) c.eval_word.new.tree c.eval_word.new.outside) c.in_err-text.ensures.same c.eval_word.ensures.runs c.in_err-text.ensures.stays)
     (λ e h q style at. c.words.invariant.leads q style at _ _ _ (at_prog (ap (λ (ws : List WordRead). words ws c.words.words.items) item)
-    (Steps.word_stays style c.word-item.result _ c.words.words.items e h.1 (h.0 q style (still_at _ _ c.args.place q style c.words.invariant.keeps.steady at)))))
+    (Steps.word_stays style c.word-item.result _ c.words.words.items e h.1 (h.0 q style (still_at c.args.tree.now c.words.tree c.args.place q style c.words.invariant.here at)))))
 
 pub evaluation::eval_command-returns-in_err-spread-clause-runs : goal.evaluation::eval_command-returns-in_err-spread-clause-runs
 evaluation::eval_command-returns-in_err-spread-clause-runs g t c =
@@ -191,9 +191,9 @@ evaluation::eval_command-returns-in_err-spread-clause-runs g t c =
     let x = ran_text c.eval_word.result c.in_ok-text.text (EndsFrom (ways g.O.Outside.goes g.O.Outside.loses) c.words.tree c.words.outside c.args.place (λ style. parts c.word-item.result.parts [] []) c.eval_word.new.tree c.eval_word.new.outside) c.in_ok-text.ensures.text c.eval_word.ensures.runs in
     fails_err c.from_residual-in_err-spread.result c.in_err-spread.field-0.0 p.0 _ _ _ p.1 p.2 c.in_err-spread.ensures
     (λ e h q style at. c.words.invariant.leads q style at _ _ _ (at_prog (ap (λ (ws : List WordRead). words ws c.words.words.items) item)
-    (Steps.word_fails style c.word-item.result _ c.words.words.items x.0 c.in_ok-text.text e _ (ap (λ (w : WordRead). w.expand) c.word.view_is) x.2 x.3 h (x.1 q style (still_at _ _ c.args.place q style c.words.invariant.keeps.steady at)))))
+    (Steps.word_fails style c.word-item.result _ c.words.words.items x.0 c.in_ok-text.text e _ (ap (λ (w : WordRead). w.expand) c.word.view_is) x.2 x.3 h (x.1 q style (still_at c.args.tree.now c.words.tree c.args.place q style c.words.invariant.here at)))))
     (λ q style at. c.words.invariant.leads q style at _ _ _ (at_prog (ap (λ (ws : List WordRead). words ws c.words.words.items) item)
-    (Steps.word_lost style c.word-item.result _ c.words.words.items (x.1 q style (still_at _ _ c.args.place q style c.words.invariant.keeps.steady at)))))
+    (Steps.word_lost style c.word-item.result _ c.words.words.items (x.1 q style (still_at c.args.tree.now c.words.tree c.args.place q style c.words.invariant.here at)))))
 
 pub evaluation::eval_command-words-preserved : goal.evaluation::eval_command-words-preserved
 evaluation::eval_command-words-preserved g t c =
@@ -201,7 +201,7 @@ evaluation::eval_command-words-preserved g t c =
     let x = ran_text c.eval_word.result c.in_ok-text.text (EndsFrom (ways g.O.Outside.goes g.O.Outside.loses) c.words.tree c.words.outside c.args.place (λ style. parts c.word-item.result.parts [] []) c.eval_word.new.tree c.eval_word.new.outside) c.in_ok-text.ensures.text c.eval_word.ensures.runs in
     record {
       leads = λ q style at V z r run. c.words.invariant.leads q style at _ _ _ (at_prog (ap (λ (ws : List WordRead). words ws c.words.words.items) item)
-          (Steps.word_goes style c.word-item.result _ c.words.words.items _ x.0 c.in_ok-text.text _ (ap (λ (w : WordRead). w.expand) c.word.view_is) x.2 x.3 c.in_ok-spread.ensures (x.1 q style (still_at _ _ c.args.place q style c.words.invariant.keeps.steady at)) run));
+          (Steps.word_goes style c.word-item.result _ c.words.words.items _ x.0 c.in_ok-text.text _ (ap (λ (w : WordRead). w.expand) c.word.view_is) x.2 x.3 c.in_ok-spread.ensures (x.1 q style (still_at c.args.tree.now c.words.tree c.args.place q style c.words.invariant.here at)) run));
       keeps = keeps-trans c.words.invariant.keeps c.eval_word.ensures.keeps;
     }
 
@@ -220,7 +220,7 @@ evaluation::eval_command-returns-in_err-charge-clause-runs g t c =
     let p = err_from_is_err_and c.from_residual-in_err-charge.result c.from_residual-in_err-charge.ensures.1 in
     says_err c.from_residual-in_err-charge.result c.in_err-charge.field-0.0 p.0 _ _ _ p.1 p.2 c.in_err-charge.ensures.refused
     (λ e h q style at. c.words.invariant.leads q style at _ _ _ (at_prog (ap (λ (ws : List WordRead). words ws c.words.words.items) none)
-    (Steps.charged_stops style c.words.words.items some (h q (still_at _ _ c.args.place q style c.words.invariant.keeps.steady at).names))))
+    (Steps.charged_stops style c.words.words.items some (h q (still_at c.args.tree.now c.words.tree c.args.place q style c.words.invariant.here at).names))))
 
 pub evaluation::eval_command-returns-clause-runs : goal.evaluation::eval_command-returns-clause-runs
 evaluation::eval_command-returns-clause-runs g t c =
@@ -229,10 +229,10 @@ evaluation::eval_command-returns-clause-runs g t c =
     let none = none_on c.deref-word-items.result.now c.words.word-index c.words-test.false in
     IfRan-more c.call.result (EndsFrom (ways g.O.Outside.goes g.O.Outside.loses) c.charge.new.tree c.charge.new.outside c.args.place (λ style. called style c.as_slice.result.now) c.call.new.tree c.call.new.outside)
     (EndsFrom (ways g.O.Outside.goes g.O.Outside.loses) c.args.tree.now c.args.outside.now c.args.place (λ style. words c.args.command.now []) c.call.new.tree c.call.new.outside) (λ e h q style at.
-    let here = still_at _ _ c.args.place q style c.words.invariant.keeps.steady at in
+    let here = still_at c.args.tree.now c.words.tree c.args.place q style c.words.invariant.here at in
     let counts = c.in_ok-charge.ensures.counted q here.names in
     c.words.invariant.leads q style at _ _ _ (at_prog (ap (λ (ws : List WordRead). words ws c.words.words.items) none)
-    (Steps.charged_calls style c.words.words.items some counts (at_prog (ap (called style) (sym c.as_slice.ensures.value)) (h q style (still_at _ _ c.args.place q style (level_steady _ _ c.charge.ensures.level) here)))))) c.call.ensures.runs
+    (Steps.charged_calls style c.words.words.items some counts (at_prog (ap (called style) (sym c.as_slice.ensures.value)) (h q style (still_at _ _ c.args.place q style (level_here _ _ c.args.place c.charge.ensures.level) here)))))) c.call.ensures.runs
 
 -- the commands of a script
 
@@ -243,7 +243,7 @@ evaluation::eval_commands-returns-in_err-last-clause-runs g t c =
     ran_err c.from_residual.result c.in_err-last.field-0.0 p.0 _ _ _ p.1 p.2
     (stays_of c.eval_command.result c.in_err-last.field-0.0 (EndsFrom (ways g.O.Outside.goes g.O.Outside.loses) c.commands.tree c.commands.outside c.args.place (λ style. words c.command-item.result []) c.eval_command.new.tree c.eval_command.new.outside) c.in_err-last.ensures.same c.eval_command.ensures.runs c.in_err-last.ensures.stays)
     (λ e h q style at. c.commands.invariant.leads q style at _ _ _ (at_prog (ap (λ (cs : List (List WordRead)). commands cs c.args.script.now.fault c.commands.last) item)
-    (Steps.command_stays style c.command-item.result _ c.args.script.now.fault c.commands.last e h.1 (h.0 q style (still_at _ _ c.args.place q style c.commands.invariant.keeps.steady at)))))
+    (Steps.command_stays style c.command-item.result _ c.args.script.now.fault c.commands.last e h.1 (h.0 q style (still_at c.args.tree.now c.commands.tree c.args.place q style c.commands.invariant.here at)))))
 
 pub evaluation::eval_commands-commands-preserved : goal.evaluation::eval_commands-commands-preserved
 evaluation::eval_commands-commands-preserved g t c =
@@ -251,7 +251,7 @@ evaluation::eval_commands-commands-preserved g t c =
     let x = ran_text c.eval_command.result c.in_ok-last.last (EndsFrom (ways g.O.Outside.goes g.O.Outside.loses) c.commands.tree c.commands.outside c.args.place (λ style. words c.command-item.result []) c.eval_command.new.tree c.eval_command.new.outside) c.in_ok-last.ensures.text c.eval_command.ensures.runs in
     record {
       leads = λ q style at V z r run. c.commands.invariant.leads q style at _ _ _ (at_prog (ap (λ (cs : List (List WordRead)). commands cs c.args.script.now.fault c.commands.last) item)
-          (Steps.command_goes style c.command-item.result _ c.args.script.now.fault c.commands.last x.0 c.in_ok-last.last x.2 x.3 (x.1 q style (still_at _ _ c.args.place q style c.commands.invariant.keeps.steady at)) run));
+          (Steps.command_goes style c.command-item.result _ c.args.script.now.fault c.commands.last x.0 c.in_ok-last.last x.2 x.3 (x.1 q style (still_at c.args.tree.now c.commands.tree c.args.place q style c.commands.invariant.here at)) run));
       keeps = keeps-trans c.commands.invariant.keeps c.eval_command.ensures.keeps;
     }
 
@@ -479,14 +479,14 @@ evaluation::substitute-returns-in_err-eval_part-clause-runs g t c =
     let p = err_from_is_err_and c.from_residual.result c.from_residual.ensures.1 in
     ran_err c.from_residual.result c.in_err-eval_part.field-0.0 p.0 _ _ _ p.1 p.2 c.in_err-eval_part.ensures.runs
     (λ e h q style at. c.parts.invariant.leads q style at _ _ _ (at_prog (ap (λ (ps : List Part). parts ps (opens c.parts.elements.items) (string_bytes c.parts.text)) item)
-    (h q style (still_at _ _ c.args.place q style c.parts.invariant.keeps.steady at) _)))
+    (h q style (still_at c.args.tree.now c.parts.tree c.args.place q style c.parts.invariant.here at) _)))
 
 pub evaluation::substitute-parts-preserved : goal.evaluation::substitute-parts-preserved
 evaluation::substitute-parts-preserved g t c =
     let item = item_on c.args.parts.now c.parts.part-index c.part-item.result c.parts-test.true c.part-item.is in
     record {
       leads = λ q style at V z r run. c.parts.invariant.leads q style at _ _ _ (at_prog (ap (λ (ps : List Part). parts ps (opens c.parts.elements.items) (string_bytes c.parts.text)) item)
-          (c.in_ok-eval_part.ensures.runs q style (still_at _ _ c.args.place q style c.parts.invariant.keeps.steady at) _ V z r run));
+          (c.in_ok-eval_part.ensures.runs q style (still_at c.args.tree.now c.parts.tree c.args.place q style c.parts.invariant.here at) _ V z r run));
       short = c.in_ok-eval_part.ensures.short;
       keeps = keeps-trans c.parts.invariant.keeps c.eval_part.ensures.keeps;
     }
@@ -541,7 +541,7 @@ commands::call_procedure-returns-clause-runs g t c =
     c.eval_value-ended.ensures.runs c.left_proc.ensures
     (λ e f h l q style at.
     let n = stands (tree_of c.args.tree.now q) (tree_there c.args.tree.now q _ at.names) in
-    let here = still_at c.args.tree.now c.enter_frame.new.tree c.args.place q style (level_steady _ _ c.in_ok-enter_frame.ensures.level) at in
+    let here = still_at c.args.tree.now c.enter_frame.new.tree c.args.place q style (level_here _ _ c.args.place c.in_ok-enter_frame.ensures.level) at in
     let after = still_at c.enter_frame.new.tree c.eval_value-ended.new.tree c.args.place q style c.eval_value-ended.ensures.keeps.steady here in
     let m = stands (tree_of c.eval_value-ended.new.tree q) (tree_there c.eval_value-ended.new.tree q _ after.names) in
     let entered = c.in_ok-enter_frame.ensures.entered q n.0 at.names n.1 in
@@ -611,7 +611,7 @@ control::catch-returns-in_err-keep_caught-clause-runs g t c =
     c.in_ok-completion.was c.caught.ensures c.eval_value.ensures.runs in
     fails_err c.from_residual-in_err-keep_caught.result c.in_err-keep_caught.field-0.0 p.0 _ _ _ p.1 p.2 c.in_err-keep_caught.ensures.kept
     (λ e h q style at.
-    let after = still_at _ _ c.args.place q style c.eval_value.ensures.keeps.steady at in
+    let after = still_at c.args.tree.now c.eval_value.new.tree c.args.place q style (here_caught c.eval_value.result c.caught.result c.in_ok-completion.completion c.args.tree.now c.eval_value.new.tree c.args.place c.in_ok-completion.was c.caught.ensures c.eval_value.ensures.here) at in
     at_prog (ap control_catch (split_first c.args.args.now c.script-item.result c.in-len1-up.len_at_least c.script-item.is))
     (catch_goes style c.script-item.result _ (completion_of c.in_ok-completion.completion) (omega (arith, few))
     (at_prog (ap script (sym c.in_ok-script.ensures.cases)) (caught q style (record { names = at.names; style_is = at.style_is })))
@@ -626,7 +626,7 @@ control::catch-returns-clause-runs g t c = λ q style at.
     let few = c.if-names-gt2.false in
     let caught = caught_ok c.eval_value.result c.caught.result c.in_ok-completion.completion (EndsAt (ways g.O.Outside.goes g.O.Outside.loses) c.args.tree.now c.args.outside.now c.args.place (λ style. script c.in_ok-script.script) c.eval_value.new.tree c.eval_value.new.outside)
     c.in_ok-completion.was c.caught.ensures c.eval_value.ensures.runs in
-    let after = still_at _ _ c.args.place q style c.eval_value.ensures.keeps.steady at in
+    let after = still_at c.args.tree.now c.eval_value.new.tree c.args.place q style (here_caught c.eval_value.result c.caught.result c.in_ok-completion.completion c.args.tree.now c.eval_value.new.tree c.args.place c.in_ok-completion.was c.caught.ensures c.eval_value.ensures.here) at in
     let code : c.from_int.result ≡ code_text (completion_of c.in_ok-completion.completion) = search rules in
     at_prog (ap control_catch (split_first c.args.args.now c.script-item.result c.in-len1-up.len_at_least c.script-item.is))
     (catch_goes style c.script-item.result _ (completion_of c.in_ok-completion.completion) (omega (arith, few))
@@ -710,7 +710,7 @@ crossing::call_target-returns-clause-keeps g t c =
 -- what stays as it is
 
 pub evaluation::eval_command-eval_word-requires : goal.evaluation::eval_command-eval_word-requires
-evaluation::eval_command-eval_word-requires g t c κs within = (search rules, (search rules, still_running _ _ c.args.place c.words.invariant.keeps.steady c.requires.running))
+evaluation::eval_command-eval_word-requires g t c κs within = (search rules, (search rules, still_running c.args.tree.now c.words.tree c.args.place c.words.invariant.here c.requires.running))
 
 pub evaluation::eval_command-returns-in_err-text-clause-keeps : goal.evaluation::eval_command-returns-in_err-text-clause-keeps
 evaluation::eval_command-returns-in_err-text-clause-keeps g t c = keeps-trans c.words.invariant.keeps c.eval_word.ensures.keeps
@@ -719,7 +719,7 @@ pub evaluation::eval_command-returns-in_err-spread-clause-keeps : goal.evaluatio
 evaluation::eval_command-returns-in_err-spread-clause-keeps g t c = keeps-trans c.words.invariant.keeps c.eval_word.ensures.keeps
 
 pub evaluation::eval_command-call-requires : goal.evaluation::eval_command-call-requires
-evaluation::eval_command-call-requires g t c κs within = (search rules, (search rules, still_running _ _ c.args.place (steady-trans _ _ _ c.words.invariant.keeps.steady (level_steady _ _ c.charge.ensures.level)) c.requires.running))
+evaluation::eval_command-call-requires g t c κs within = (search rules, (search rules, still_running c.args.tree.now c.charge.new.tree c.args.place (here-trans c.args.tree.now c.words.tree c.charge.new.tree c.args.place c.words.invariant.here (level_here _ _ c.args.place c.charge.ensures.level)) c.requires.running))
 
 pub evaluation::eval_command-returns-in_err-charge-clause-keeps : goal.evaluation::eval_command-returns-in_err-charge-clause-keeps
 evaluation::eval_command-returns-in_err-charge-clause-keeps g t c = keeps-trans c.words.invariant.keeps (charged_keeps c.charge.ensures.level c.charge.ensures.left)
@@ -731,7 +731,7 @@ pub evaluation::eval_commands-returns-in_err-last-clause-keeps : goal.evaluation
 evaluation::eval_commands-returns-in_err-last-clause-keeps g t c = keeps-trans c.commands.invariant.keeps c.eval_command.ensures.keeps
 
 pub evaluation::substitute-eval_part-requires : goal.evaluation::substitute-eval_part-requires
-evaluation::substitute-eval_part-requires g t c κs within = (search rules, (search rules, (still_running _ _ c.args.place c.parts.invariant.keeps.steady c.requires.running, c.parts.invariant.short)))
+evaluation::substitute-eval_part-requires g t c κs within = (search rules, (search rules, (still_running c.args.tree.now c.parts.tree c.args.place c.parts.invariant.here c.requires.running, c.parts.invariant.short)))
 
 pub evaluation::substitute-returns-in_err-eval_part-clause-keeps : goal.evaluation::substitute-returns-in_err-eval_part-clause-keeps
 evaluation::substitute-returns-in_err-eval_part-clause-keeps g t c = keeps-trans c.parts.invariant.keeps c.eval_part.ensures.keeps
@@ -922,7 +922,7 @@ expressions::expression-returns-in_err-value-in-Wants-clause-runs g t c =
     let same = c.integers-style.ensures ∙ at.style_is in
     c.parts.invariant.leads q style at text is _ _ _
     (Conditions.wants_part style c.integers-style.result c.args.kept.now.nodes.items c.parts.evaluation.next c.next_part.new.evaluation.next c.parts.evaluation.values.items c.next_part.new.evaluation.values.items c.in-Wants.word.now same wants
-    (Conditions.part_stays style c.in-Wants.word.now (λ v. from style c.args.kept.now.nodes.items c.next_part.new.evaluation.next (c.next_part.new.evaluation.values.items ++ v ∷ [])) (settles style) e h.1 (h.0 q style (still_at _ _ c.args.place q style c.parts.invariant.keeps.steady at)))))
+    (Conditions.part_stays style c.in-Wants.word.now (λ v. from style c.args.kept.now.nodes.items c.next_part.new.evaluation.next (c.next_part.new.evaluation.values.items ++ v ∷ [])) (settles style) e h.1 (h.0 q style (still_at c.args.tree.now c.parts.tree c.args.place q style c.parts.invariant.here at)))))
 
 pub expressions::expression-returns-in_err-supply-in-Wants-clause-runs : goal.expressions::expression-returns-in_err-supply-in-Wants-clause-runs
 expressions::expression-returns-in_err-supply-in-Wants-clause-runs g t c =
@@ -936,7 +936,7 @@ expressions::expression-returns-in_err-supply-in-Wants-clause-runs g t c =
     let same = c.integers-style.ensures ∙ at.style_is in
     c.parts.invariant.leads q style at text is _ _ _
     (Conditions.wants_part style c.integers-style.result c.args.kept.now.nodes.items c.parts.evaluation.next c.next_part.new.evaluation.next c.parts.evaluation.values.items c.next_part.new.evaluation.values.items c.in-Wants.word.now same wants
-    (Conditions.part_goes style c.in-Wants.word.now (λ v. from style c.args.kept.now.nodes.items c.next_part.new.evaluation.next (c.next_part.new.evaluation.values.items ++ v ∷ [])) (settles style) x.0 c.in_ok-value-in-Wants.value x.2 x.3 (x.1 q style (still_at _ _ c.args.place q style c.parts.invariant.keeps.steady at))
+    (Conditions.part_goes style c.in-Wants.word.now (λ v. from style c.args.kept.now.nodes.items c.next_part.new.evaluation.next (c.next_part.new.evaluation.values.items ++ v ∷ [])) (settles style) x.0 c.in_ok-value-in-Wants.value x.2 x.3 (x.1 q style (still_at c.args.tree.now c.parts.tree c.args.place q style c.parts.invariant.here at))
     stopped)))
 
 pub expressions::expression-returns-in-Done-clause-runs : goal.expressions::expression-returns-in-Done-clause-runs
@@ -960,7 +960,7 @@ expressions::expression-parts-preserved g t c =
           let same = c.integers-style.ensures ∙ at.style_is in
           c.parts.invariant.leads q style at text is _ _ _
           (Conditions.wants_part style c.integers-style.result c.args.kept.now.nodes.items c.parts.evaluation.next c.next_part.new.evaluation.next c.parts.evaluation.values.items c.next_part.new.evaluation.values.items c.in-Wants.word.now same wants
-          (Conditions.part_goes style c.in-Wants.word.now (λ v. from style c.args.kept.now.nodes.items c.next_part.new.evaluation.next (c.next_part.new.evaluation.values.items ++ v ∷ [])) (settles style) x.0 c.in_ok-value-in-Wants.value x.2 x.3 (x.1 q style (still_at _ _ c.args.place q style c.parts.invariant.keeps.steady at))
+          (Conditions.part_goes style c.in-Wants.word.now (λ v. from style c.args.kept.now.nodes.items c.next_part.new.evaluation.next (c.next_part.new.evaluation.values.items ++ v ∷ [])) (settles style) x.0 c.in_ok-value-in-Wants.value x.2 x.3 (x.1 q style (still_at c.args.tree.now c.parts.tree c.args.place q style c.parts.invariant.here at))
           (at_prog (λ i. computed (from style c.args.kept.now.nodes.items (sym c.in_ok-supply-in-Wants.ensures.next i) (sym c.in_ok-supply-in-Wants.ensures.values i)) (settles style)) run)));
       keeps = keeps-trans c.parts.invariant.keeps c.eval_word.ensures.keeps;
     }
@@ -1046,7 +1046,7 @@ expressions::if_first-returns-in_err-test-clause-runs g t c =
     let p = err_from_is_err_and c.from_residual-in_err-test.result c.from_residual-in_err-test.ensures.1 in
     fails_err c.from_residual-in_err-test.result c.in_err-test.field-0.0 p.0 _ _ _ p.1 p.2 c.in_err-test.ensures.refused
     (λ e h q style at.
-    let here = still_at _ _ c.args.place q style c.tests.invariant.keeps.steady at in
+    let here = still_at c.args.tree.now c.tests.tree c.args.place q style c.tests.invariant.here at in
     let same = c.integers.ensures ∙ here.style_is in
     c.tests.invariant.leads q style at _ _ _ (at_prog (ap (λ (bs : List Branch). first_true style (tests_of bs) (option_copied c.in-Some.branches.last)) item)
     (Conditions.test_misread style c.branch-item.result.test.now _ e (Conditions.misread_in c.integers.result style c.branch-item.result.test.now e same h))))
@@ -1058,7 +1058,7 @@ expressions::if_first-returns-in_err-condition-clause-runs g t c =
     let p = err_from_is_err_and c.from_residual-in_err-condition.result c.from_residual-in_err-condition.ensures.1 in
     ran_err c.from_residual-in_err-condition.result c.in_err-condition.field-0.0 p.0 _ _ _ p.1 p.2 c.in_err-condition.ensures.runs
     (λ e h q style at.
-    let here = still_at _ _ c.args.place q style c.tests.invariant.keeps.steady at in
+    let here = still_at c.args.tree.now c.tests.tree c.args.place q style c.tests.invariant.here at in
     let same = c.integers.ensures ∙ here.style_is in
     c.tests.invariant.leads q style at _ _ _ (at_prog (ap (λ (bs : List Branch). first_true style (tests_of bs) (option_copied c.in-Some.branches.last)) item)
     (h q style here c.branch-item.result.test.now (Conditions.kept_behind c.integers.result style c.branch-item.result.test.now c.in_ok-test.test.value c.deref.result.now c.deref.ensures same c.in_ok-test.ensures.read) _)))
@@ -1070,7 +1070,7 @@ expressions::if_first-returns-in_err-body-clause-runs g t c =
     let p = err_from_is_err_and c.from_residual-in_err-body.result c.from_residual-in_err-body.ensures.1 in
     memory_err c.from_residual-in_err-body.result p.0 _ _ p.1 p.2
     (λ q style at.
-    let here = still_at _ _ c.args.place q style c.tests.invariant.keeps.steady at in
+    let here = still_at c.args.tree.now c.tests.tree c.args.place q style c.tests.invariant.here at in
     let same = c.integers.ensures ∙ here.style_is in
     c.tests.invariant.leads q style at _ _ _ (at_prog (ap (λ (bs : List Branch). first_true style (tests_of bs) (option_copied c.in-Some.branches.last)) item)
     (holds q style here c.branch-item.result.test.now (Conditions.kept_behind c.integers.result style c.branch-item.result.test.now c.in_ok-test.test.value c.deref.result.now c.deref.ensures same c.in_ok-test.ensures.read) _ _ _ _ stopped)))
@@ -1083,8 +1083,8 @@ expressions::if_first-returns-then-branch-clause-runs g t c =
     (EndsAt (ways g.O.Outside.goes g.O.Outside.loses) c.condition.new.tree c.condition.new.outside c.args.place (λ style. script c.in_ok-body.body) c.eval_value.new.tree c.eval_value.new.outside)
     (EndsFrom (ways g.O.Outside.goes g.O.Outside.loses) c.args.tree.now c.args.outside.now c.args.place (λ style. if_first style c.args.args.now) c.eval_value.new.tree c.eval_value.new.outside)
     (λ e h q style at.
-    let here = still_at _ _ c.args.place q style c.tests.invariant.keeps.steady at in
-    let after = still_at _ _ c.args.place q style c.condition.ensures.keeps.steady here in
+    let here = still_at c.args.tree.now c.tests.tree c.args.place q style c.tests.invariant.here at in
+    let after = still_at _ _ c.args.place q style c.in_ok-condition.ensures.here here in
     let same = c.integers.ensures ∙ here.style_is in
     c.tests.invariant.leads q style at _ _ _ (at_prog (ap (λ (bs : List Branch). first_true style (tests_of bs) (option_copied c.in-Some.branches.last)) item)
     (holds q style here c.branch-item.result.test.now (Conditions.kept_behind c.integers.result style c.branch-item.result.test.now c.in_ok-test.test.value c.deref.result.now c.deref.ensures same c.in_ok-test.ensures.read) _ _ _ _
@@ -1096,7 +1096,7 @@ expressions::if_first-tests-preserved g t c =
     let holds = subst (TestGoes (ways g.O.Outside.goes g.O.Outside.loses) c.tests.tree c.tests.outside c.args.place c.deref.result.now c.condition.new.tree c.condition.new.outside) c.if-branch.false c.in_ok-condition.ensures.runs in
     record {
       leads = λ q style at V z r run.
-          let here = still_at _ _ c.args.place q style c.tests.invariant.keeps.steady at in
+          let here = still_at c.args.tree.now c.tests.tree c.args.place q style c.tests.invariant.here at in
           let same = c.integers.ensures ∙ here.style_is in
           c.tests.invariant.leads q style at _ _ _ (at_prog (ap (λ (bs : List Branch). first_true style (tests_of bs) (option_copied c.in-Some.branches.last)) item)
           (holds q style here c.branch-item.result.test.now (Conditions.kept_behind c.integers.result style c.branch-item.result.test.now c.in_ok-test.test.value c.deref.result.now c.deref.ensures same c.in_ok-test.ensures.read) _ V z r run));
@@ -1122,7 +1122,7 @@ expressions::if_first-returns-clause-runs g t c =
     (EndsAt (ways g.O.Outside.goes g.O.Outside.loses) c.tests.tree c.tests.outside c.args.place (λ style. script c.in_ok-body-2.body) c.eval_value-2.new.tree c.eval_value-2.new.outside)
     (EndsFrom (ways g.O.Outside.goes g.O.Outside.loses) c.args.tree.now c.args.outside.now c.args.place (λ style. if_first style c.args.args.now) c.eval_value-2.new.tree c.eval_value-2.new.outside)
     (λ e h q style at.
-    let here = still_at _ _ c.args.place q style c.tests.invariant.keeps.steady at in
+    let here = still_at c.args.tree.now c.tests.tree c.args.place q style c.tests.invariant.here at in
     c.tests.invariant.leads q style at _ _ _ (at_prog (ap (λ (bs : List Branch). first_true style (tests_of bs) (option_copied c.in-Some.branches.last)) none)
     (Conditions.last_runs style _ c.in-Some-last.last.now (ap option_copied c.in-Some-last.is)
     (at_prog (ap script (sym c.in_ok-body-2.ensures.cases)) (h q style (record { names = here.names; style_is = here.style_is })))))) c.eval_value-2.ensures.runs
@@ -1146,7 +1146,7 @@ expressions::turn-returns-in_err-charge-clause-runs g t c =
     let p = err_from_is_err_and c.from_residual-in_err-charge.result c.from_residual-in_err-charge.ensures.1 in
     says_err c.from_residual-in_err-charge.result c.in_err-charge.field-0.0 p.0 _ _ _ p.1 p.2 c.in_err-charge.ensures.refused
     (λ e h q style at text is more.
-    holds q style at text is _ _ _ _ (charge_refused (h q (still_at _ _ c.args.place q style c.condition.ensures.keeps.steady at).names)))
+    holds q style at text is _ _ _ _ (charge_refused (h q (still_at _ _ c.args.place q style c.in_ok-condition.ensures.here at).names)))
 
 pub expressions::turn-returns-clause-runs : goal.expressions::turn-returns-clause-runs
 expressions::turn-returns-clause-runs g t c =
@@ -1156,13 +1156,13 @@ expressions::turn-returns-clause-runs g t c =
     (λ d on h goes.
     Conditions.turn_ends (ways g.O.Outside.goes g.O.Outside.loses) c.args.tree.now c.eval_value.new.tree c.args.outside.now c.eval_value.new.outside c.args.place c.args.test.now c.args.body.now d on
     (λ q style at text is k V y r run.
-    let here = still_at _ _ c.args.place q style c.condition.ensures.keeps.steady at in
-    let after = still_at _ _ c.args.place q style (level_steady _ _ c.charge.ensures.level) here in
+    let here = still_at _ _ c.args.place q style c.in_ok-condition.ensures.here at in
+    let after = still_at _ _ c.args.place q style (level_here _ _ c.args.place c.charge.ensures.level) here in
     let counts = c.in_ok-charge.ensures.counted q here.names in
     holds q style at text is _ V y r (charges counts (goes_on {i = Script c.args.body.now} (h q style (record { names = after.names; style_is = after.style_is })) run))) goes)
     (λ e h l q style at text is more.
-    let here = still_at _ _ c.args.place q style c.condition.ensures.keeps.steady at in
-    let after = still_at _ _ c.args.place q style (level_steady _ _ c.charge.ensures.level) here in
+    let here = still_at _ _ c.args.place q style c.in_ok-condition.ensures.here at in
+    let after = still_at _ _ c.args.place q style (level_here _ _ c.args.place c.charge.ensures.level) here in
     let counts = c.in_ok-charge.ensures.counted q here.names in
     holds q style at text is _ _ _ _ (charges counts (Conditions.leaves_after style after_body c.args.body.now more e l (h q style (record { names = after.names; style_is = after.style_is })))))
 
@@ -1210,7 +1210,7 @@ expressions::while_loop-returns-in_err-turn-clause-runs g t c =
     ran_err c.from_residual-in_err-turn.result c.in_err-turn.field-0.0 p.0 _ _ _ p.1 p.2 c.in_err-turn.ensures.runs
     (λ e h q style at. c.turns.invariant.leads q style at _ _ _
     (at_prog (ap (λ (body : List ℕ). turn_then style (get_or c.args.args.now 0 []) body (go (While (get_or c.args.args.now 0 []) (get_or c.args.args.now 1 [])) done)) (sym c.turns.invariant.body))
-    (h q style (still_at _ _ c.args.place q style c.turns.invariant.keeps.steady at) (get_or c.args.args.now 0 [])
+    (h q style (still_at c.args.tree.now c.turns.tree c.args.place q style c.turns.invariant.here at) (get_or c.args.args.now 0 [])
     (Conditions.kept_as_behind c.integers.result style c.test-item.result (get_or c.args.args.now 0 []) c.in_ok-test.test.value c.deref.result.now c.deref.ensures (c.integers.ensures ∙ at.style_is) test c.in_ok-test.ensures.read) _)))
 
 pub expressions::while_loop-returns-then-not-branch-clause-runs : goal.expressions::while_loop-returns-then-not-branch-clause-runs
@@ -1221,7 +1221,7 @@ expressions::while_loop-returns-then-not-branch-clause-runs g t c = λ q style a
     c.turns.invariant.leads q style at _ _ _
     (at_prog (ap (λ (body : List ℕ). turn_then style (get_or c.args.args.now 0 []) body (go (While (get_or c.args.args.now 0 []) (get_or c.args.args.now 1 [])) done)) (sym c.turns.invariant.body))
     (at_reply (ap (λ (x : List ℕ). Completed (ok x)) c.empty.ensures)
-    (over q style (still_at _ _ c.args.place q style c.turns.invariant.keeps.steady at) (get_or c.args.args.now 0 [])
+    (over q style (still_at c.args.tree.now c.turns.tree c.args.place q style c.turns.invariant.here at) (get_or c.args.args.now 0 [])
     (Conditions.kept_as_behind c.integers.result style c.test-item.result (get_or c.args.args.now 0 []) c.in_ok-test.test.value c.deref.result.now c.deref.ensures (c.integers.ensures ∙ at.style_is) test c.in_ok-test.ensures.read) _)))
 
 pub expressions::while_loop-turns-preserved : goal.expressions::while_loop-turns-preserved
@@ -1232,7 +1232,7 @@ expressions::while_loop-turns-preserved g t c =
     record {
       leads = λ q style at V z r run. c.turns.invariant.leads q style at _ _ _
           (at_prog (ap (λ (body : List ℕ). turn_then style (get_or c.args.args.now 0 []) body (go (While (get_or c.args.args.now 0 []) (get_or c.args.args.now 1 [])) done)) (sym c.turns.invariant.body))
-          (on q style (still_at _ _ c.args.place q style c.turns.invariant.keeps.steady at) (get_or c.args.args.now 0 [])
+          (on q style (still_at c.args.tree.now c.turns.tree c.args.place q style c.turns.invariant.here at) (get_or c.args.args.now 0 [])
           (Conditions.kept_as_behind c.integers.result style c.test-item.result (get_or c.args.args.now 0 []) c.in_ok-test.test.value c.deref.result.now c.deref.ensures (c.integers.ensures ∙ at.style_is) test c.in_ok-test.ensures.read) _ V z r
           (goes_done {i = While (get_or c.args.args.now 0 []) (get_or c.args.args.now 1 [])} run)));
       body = c.turn.ensures.same ∙ c.turns.invariant.body;
@@ -1280,7 +1280,7 @@ expressions::for_loop-returns-in_err-test-clause-runs g t c =
     c.in_ok-on_ok.ensures.text c.eval_value.ensures.runs in
     fails_err c.from_residual-in_err-test.result c.in_err-test.field-0.0 p.0 _ _ _ p.1 p.2 c.in_err-test.ensures.refused
     (λ e h q style at.
-    let here = still_at _ _ c.args.place q style c.eval_value.ensures.keeps.steady at in
+    let here = still_at c.args.tree.now c.eval_value.new.tree c.args.place q style (here_text c.eval_value.result c.in_ok-on_ok.field-0 c.args.tree.now c.eval_value.new.tree c.args.place c.in_ok-on_ok.ensures.text c.eval_value.ensures.here) at in
     Looping.for_begins style c.args.args.now x.0 c.in_ok-on_ok.field-0 c.in-len4.len_at_least c.in-len4.len_below x.2 x.3
     (at_prog (ap script (sym start)) (x.1 q style (record { names = at.names; style_is = at.style_is })))
     (Conditions.test_misread style (get_or c.args.args.now 1 []) _ e (Conditions.misread_as c.integers.result style c.test-item.result (get_or c.args.args.now 1 []) e (c.integers.ensures ∙ here.style_is) test h)))
@@ -1331,10 +1331,10 @@ expressions::for_loop-returns-in_err-turn-clause-runs g t c =
     let test = Looping.item_at c.args.args.now 1 c.test-item.result (omega (arith, more)) c.test-item.is in
     ran_err c.from_residual-in_err-turn.result c.in_err-turn.field-0.0 p.0 _ _ _ p.1 p.2 c.in_err-turn.ensures.runs
     (λ e h q style at.
-    let first = still_at _ _ c.args.place q style c.eval_value.ensures.keeps.steady at in
+    let first = still_at c.args.tree.now c.eval_value.new.tree c.args.place q style (here_text c.eval_value.result c.in_ok-on_ok.field-0 c.args.tree.now c.eval_value.new.tree c.args.place c.in_ok-on_ok.ensures.text c.eval_value.ensures.here) at in
     c.turns.invariant.leads q style at _ _ _
     (at_prog (ap (λ (body : List ℕ). turn_then style (get_or c.args.args.now 1 []) body (next_then (get_or c.args.args.now 1 []) (get_or c.args.args.now 2 []) (get_or c.args.args.now 3 []))) (sym c.turns.invariant.body))
-    (h q style (still_at _ _ c.args.place q style c.turns.invariant.keeps.steady at) (get_or c.args.args.now 1 [])
+    (h q style (still_at c.args.tree.now c.turns.tree c.args.place q style c.turns.invariant.here at) (get_or c.args.args.now 1 [])
     (Conditions.kept_as_behind c.integers.result style c.test-item.result (get_or c.args.args.now 1 []) c.in_ok-test.test.value c.deref.result.now c.deref.ensures (c.integers.ensures ∙ first.style_is) test c.in_ok-test.ensures.read) _)))
 
 pub expressions::for_loop-returns-in_err-turn-clause-keeps : goal.expressions::for_loop-returns-in_err-turn-clause-keeps
@@ -1345,11 +1345,11 @@ expressions::for_loop-returns-then-not-branch-clause-runs g t c = λ q style at.
     let more = c.in-len4.len_at_least in
     let test = Looping.item_at c.args.args.now 1 c.test-item.result (omega (arith, more)) c.test-item.is in
     let over = subst (TurnGoes (ways g.O.Outside.goes g.O.Outside.loses) c.turns.tree c.turns.outside c.args.place c.deref.result.now c.turns.body c.turn.new.tree c.turn.new.outside) c.if-not-branch.true c.in_ok-turn.ensures.runs in
-    let first = still_at _ _ c.args.place q style c.eval_value.ensures.keeps.steady at in
+    let first = still_at c.args.tree.now c.eval_value.new.tree c.args.place q style (here_text c.eval_value.result c.in_ok-on_ok.field-0 c.args.tree.now c.eval_value.new.tree c.args.place c.in_ok-on_ok.ensures.text c.eval_value.ensures.here) at in
     c.turns.invariant.leads q style at _ _ _
     (at_prog (ap (λ (body : List ℕ). turn_then style (get_or c.args.args.now 1 []) body (next_then (get_or c.args.args.now 1 []) (get_or c.args.args.now 2 []) (get_or c.args.args.now 3 []))) (sym c.turns.invariant.body))
     (at_reply (ap (λ (x : List ℕ). Completed (ok x)) c.empty.ensures)
-    (over q style (still_at _ _ c.args.place q style c.turns.invariant.keeps.steady at) (get_or c.args.args.now 1 [])
+    (over q style (still_at c.args.tree.now c.turns.tree c.args.place q style c.turns.invariant.here at) (get_or c.args.args.now 1 [])
     (Conditions.kept_as_behind c.integers.result style c.test-item.result (get_or c.args.args.now 1 []) c.in_ok-test.test.value c.deref.result.now c.deref.ensures (c.integers.ensures ∙ first.style_is) test c.in_ok-test.ensures.read) _)))
 
 pub expressions::for_loop-returns-then-not-branch-clause-keeps : goal.expressions::for_loop-returns-then-not-branch-clause-keeps
@@ -1365,9 +1365,9 @@ expressions::for_loop-returns-in_err-turns_on-clause-runs g t c =
     (Conditions.turned_err after_next c.eval_value-in-turns.result c.in_err-turns_on.field-0.0
     (EndsAt (ways g.O.Outside.goes g.O.Outside.loses) c.turn.new.tree c.turn.new.outside c.args.place (λ style. script c.turns.next) c.eval_value-in-turns.new.tree c.eval_value-in-turns.new.outside) c.in_err-turns_on.ensures c.eval_value-in-turns.ensures.runs)
     (λ e h q style at.
-    let first = still_at _ _ c.args.place q style c.eval_value.ensures.keeps.steady at in
-    let here = still_at _ _ c.args.place q style c.turns.invariant.keeps.steady at in
-    let after = still_at _ _ c.args.place q style c.turn.ensures.keeps.steady here in
+    let first = still_at c.args.tree.now c.eval_value.new.tree c.args.place q style (here_text c.eval_value.result c.in_ok-on_ok.field-0 c.args.tree.now c.eval_value.new.tree c.args.place c.in_ok-on_ok.ensures.text c.eval_value.ensures.here) at in
+    let here = still_at c.args.tree.now c.turns.tree c.args.place q style c.turns.invariant.here at in
+    let after = still_at c.turns.tree c.turn.new.tree c.args.place q style c.in_ok-turn.ensures.here here in
     c.turns.invariant.leads q style at _ _ _
     (at_prog (ap (λ (body : List ℕ). turn_then style (get_or c.args.args.now 1 []) body (next_then (get_or c.args.args.now 1 []) (get_or c.args.args.now 2 []) (get_or c.args.args.now 3 []))) (sym c.turns.invariant.body))
     (on q style here (get_or c.args.args.now 1 [])
@@ -1384,9 +1384,9 @@ expressions::for_loop-returns-then-not-branch-2-clause-runs g t c = λ q style a
     let on = subst (TurnGoes (ways g.O.Outside.goes g.O.Outside.loses) c.turns.tree c.turns.outside c.args.place c.deref.result.now c.turns.body c.turn.new.tree c.turn.new.outside) c.if-not-branch.false c.in_ok-turn.ensures.runs in
     let x = Conditions.turned_ok after_next c.eval_value-in-turns.result c.in_ok-turns_on.field-0 false
     (EndsAt (ways g.O.Outside.goes g.O.Outside.loses) c.turn.new.tree c.turn.new.outside c.args.place (λ style. script c.turns.next) c.eval_value-in-turns.new.tree c.eval_value-in-turns.new.outside) c.in_ok-turns_on.ensures c.if-not-branch-2.true c.eval_value-in-turns.ensures.runs in
-    let first = still_at _ _ c.args.place q style c.eval_value.ensures.keeps.steady at in
-    let here = still_at _ _ c.args.place q style c.turns.invariant.keeps.steady at in
-    let after = still_at _ _ c.args.place q style c.turn.ensures.keeps.steady here in
+    let first = still_at c.args.tree.now c.eval_value.new.tree c.args.place q style (here_text c.eval_value.result c.in_ok-on_ok.field-0 c.args.tree.now c.eval_value.new.tree c.args.place c.in_ok-on_ok.ensures.text c.eval_value.ensures.here) at in
+    let here = still_at c.args.tree.now c.turns.tree c.args.place q style c.turns.invariant.here at in
+    let after = still_at c.turns.tree c.turn.new.tree c.args.place q style c.in_ok-turn.ensures.here here in
     c.turns.invariant.leads q style at _ _ _
     (at_prog (ap (λ (body : List ℕ). turn_then style (get_or c.args.args.now 1 []) body (next_then (get_or c.args.args.now 1 []) (get_or c.args.args.now 2 []) (get_or c.args.args.now 3 []))) (sym c.turns.invariant.body))
     (on q style here (get_or c.args.args.now 1 [])
@@ -1406,9 +1406,9 @@ expressions::for_loop-turns-preserved g t c =
     (EndsAt (ways g.O.Outside.goes g.O.Outside.loses) c.turn.new.tree c.turn.new.outside c.args.place (λ style. script c.turns.next) c.eval_value-in-turns.new.tree c.eval_value-in-turns.new.outside) c.in_ok-turns_on.ensures c.if-not-branch-2.false c.eval_value-in-turns.ensures.runs in
     record {
       leads = λ q style at V z r run.
-          let first = still_at _ _ c.args.place q style c.eval_value.ensures.keeps.steady at in
-          let here = still_at _ _ c.args.place q style c.turns.invariant.keeps.steady at in
-          let after = still_at _ _ c.args.place q style c.turn.ensures.keeps.steady here in
+          let first = still_at c.args.tree.now c.eval_value.new.tree c.args.place q style (here_text c.eval_value.result c.in_ok-on_ok.field-0 c.args.tree.now c.eval_value.new.tree c.args.place c.in_ok-on_ok.ensures.text c.eval_value.ensures.here) at in
+          let here = still_at c.args.tree.now c.turns.tree c.args.place q style c.turns.invariant.here at in
+          let after = still_at c.turns.tree c.turn.new.tree c.args.place q style c.in_ok-turn.ensures.here here in
           c.turns.invariant.leads q style at _ _ _
           (at_prog (ap (λ (body : List ℕ). turn_then style (get_or c.args.args.now 1 []) body (next_then (get_or c.args.args.now 1 []) (get_or c.args.args.now 2 []) (get_or c.args.args.now 3 []))) (sym c.turns.invariant.body))
           (on q style here (get_or c.args.args.now 1 [])
@@ -1451,7 +1451,7 @@ loops::walk_through-returns-in_err-charge-clause-runs g t c =
     let p = err_from_is_err_and c.from_residual-in_err-charge.result c.from_residual-in_err-charge.ensures.1 in
     says_err c.from_residual-in_err-charge.result c.in_err-charge.field-0.0 p.0 _ _ _ p.1 p.2 c.in_err-charge.ensures.refused
     (λ e h q style at. c.turns.invariant.leads q style at _ _ _
-    (Walking.turn_stops style (walks_at c.turns.turns c.args.walks.now) (done (ok [])) (body_then c.args.body.now) more (h q (still_at _ _ c.args.place q style c.turns.invariant.keeps.steady at).names)))
+    (Walking.turn_stops style (walks_at c.turns.turns c.args.walks.now) (done (ok [])) (body_then c.args.body.now) more (h q (still_at c.args.tree.now c.turns.tree c.args.place q style c.turns.invariant.here at).names)))
 
 pub loops::walk_through-returns-in_err-set_walks-clause-runs : goal.loops::walk_through-returns-in_err-set_walks-clause-runs
 loops::walk_through-returns-in_err-set_walks-clause-runs g t c =
@@ -1459,13 +1459,13 @@ loops::walk_through-returns-in_err-set_walks-clause-runs g t c =
     let p = err_from_is_err_and c.from_residual-in_err-set_walks.result c.from_residual-in_err-set_walks.ensures.1 in
     fails_err c.from_residual-in_err-set_walks.result c.in_err-set_walks.field-0.0 p.0 _ _ _ p.1 p.2 c.in_err-set_walks.ensures.set
     (λ e h q style at.
-    let here = still_at _ _ c.args.place q style c.turns.invariant.keeps.steady at in
-    let after = still_at _ _ c.args.place q style (level_steady _ _ c.charge.ensures.level) here in
+    let here = still_at c.args.tree.now c.turns.tree c.args.place q style c.turns.invariant.here at in
+    let after = still_at _ _ c.args.place q style (level_here _ _ c.args.place c.charge.ensures.level) here in
     let counts = c.in_ok-charge.ensures.counted q here.names in
     c.turns.invariant.leads q style at _ _ _
     (Walking.turn_fails style (walks_at c.turns.turns c.args.walks.now) (done (ok [])) (body_then c.args.body.now) more counts (λ k. h q after.names k)))
     (λ q style at.
-    let here = still_at _ _ c.args.place q style c.turns.invariant.keeps.steady at in
+    let here = still_at c.args.tree.now c.turns.tree c.args.place q style c.turns.invariant.here at in
     let counts = c.in_ok-charge.ensures.counted q here.names in
     c.turns.invariant.leads q style at _ _ _ (Walking.turn_given_up style (walks_at c.turns.turns c.args.walks.now) (done (ok [])) (body_then c.args.body.now) more counts))
 
@@ -1477,9 +1477,9 @@ loops::walk_through-returns-in_err-goes_on-clause-runs g t c =
     (Conditions.turned_err after_body c.eval_value.result c.in_err-goes_on.field-0.0
     (EndsAt (ways g.O.Outside.goes g.O.Outside.loses) c.set_walks.new.tree c.charge.new.outside c.args.place (λ style. script c.turns.script) c.eval_value.new.tree c.eval_value.new.outside) c.in_err-goes_on.ensures c.eval_value.ensures.runs)
     (λ e h q style at.
-    let here = still_at _ _ c.args.place q style c.turns.invariant.keeps.steady at in
-    let after = still_at _ _ c.args.place q style (level_steady _ _ c.charge.ensures.level) here in
-    let set = still_at _ _ c.args.place q style (level_steady _ _ c.set_walks.ensures.level) after in
+    let here = still_at c.args.tree.now c.turns.tree c.args.place q style c.turns.invariant.here at in
+    let after = still_at _ _ c.args.place q style (level_here _ _ c.args.place c.charge.ensures.level) here in
+    let set = still_at _ _ c.args.place q style (level_here _ _ c.args.place c.set_walks.ensures.level) after in
     let counts = c.in_ok-charge.ensures.counted q here.names in
     c.turns.invariant.leads q style at _ _ _
     (Walking.turn_begins style (walks_at c.turns.turns c.args.walks.now) (done (ok [])) (body_then c.args.body.now) more counts
@@ -1491,9 +1491,9 @@ loops::walk_through-returns-then-not-branch-clause-runs g t c = λ q style at.
     let more = sym c.is_over.ensures ∙ c.if-is_over.false in
     let x = Conditions.turned_ok after_body c.eval_value.result c.in_ok-goes_on.field-0 false
     (EndsAt (ways g.O.Outside.goes g.O.Outside.loses) c.set_walks.new.tree c.charge.new.outside c.args.place (λ style. script c.turns.script) c.eval_value.new.tree c.eval_value.new.outside) c.in_ok-goes_on.ensures c.if-not-branch.true c.eval_value.ensures.runs in
-    let here = still_at _ _ c.args.place q style c.turns.invariant.keeps.steady at in
-    let after = still_at _ _ c.args.place q style (level_steady _ _ c.charge.ensures.level) here in
-    let set = still_at _ _ c.args.place q style (level_steady _ _ c.set_walks.ensures.level) after in
+    let here = still_at c.args.tree.now c.turns.tree c.args.place q style c.turns.invariant.here at in
+    let after = still_at _ _ c.args.place q style (level_here _ _ c.args.place c.charge.ensures.level) here in
+    let set = still_at _ _ c.args.place q style (level_here _ _ c.args.place c.set_walks.ensures.level) after in
     let counts = c.in_ok-charge.ensures.counted q here.names in
     c.turns.invariant.leads q style at _ _ _
     (Walking.turn_begins style (walks_at c.turns.turns c.args.walks.now) (done (ok [])) (body_then c.args.body.now) more counts
@@ -1508,9 +1508,9 @@ loops::walk_through-turns-preserved g t c =
     (EndsAt (ways g.O.Outside.goes g.O.Outside.loses) c.set_walks.new.tree c.charge.new.outside c.args.place (λ style. script c.turns.script) c.eval_value.new.tree c.eval_value.new.outside) c.in_ok-goes_on.ensures c.if-not-branch.false c.eval_value.ensures.runs in
     record {
       leads = λ q style at V z r run.
-          let here = still_at _ _ c.args.place q style c.turns.invariant.keeps.steady at in
-          let after = still_at _ _ c.args.place q style (level_steady _ _ c.charge.ensures.level) here in
-          let set = still_at _ _ c.args.place q style (level_steady _ _ c.set_walks.ensures.level) after in
+          let here = still_at c.args.tree.now c.turns.tree c.args.place q style c.turns.invariant.here at in
+          let after = still_at _ _ c.args.place q style (level_here _ _ c.args.place c.charge.ensures.level) here in
+          let set = still_at _ _ c.args.place q style (level_here _ _ c.args.place c.set_walks.ensures.level) after in
           let counts = c.in_ok-charge.ensures.counted q here.names in
           c.turns.invariant.leads q style at _ _ _
           (Walking.turn_begins style (walks_at c.turns.turns c.args.walks.now) (done (ok [])) (body_then c.args.body.now) more counts
@@ -1611,7 +1611,7 @@ collecting::lmap-returns-in_err-charge-clause-runs g t c =
     let p = err_from_is_err_and c.from_residual-in_err-charge.result c.from_residual-in_err-charge.ensures.1 in
     says_err c.from_residual-in_err-charge.result c.in_err-charge.field-0.0 p.0 _ _ _ p.1 p.2 c.in_err-charge.ensures.refused
     (λ e h q style at. c.turns.invariant.leads q style at _ _ _
-    (Walking.turn_stops style (walks_at c.turns.turns c.in_ok-walks.walks.items) (gives (written_list c.turns.made)) (result_then c.in_ok-body.body c.turns.made) more (h q (still_at _ _ c.args.place q style c.turns.invariant.keeps.steady at).names)))
+    (Walking.turn_stops style (walks_at c.turns.turns c.in_ok-walks.walks.items) (gives (written_list c.turns.made)) (result_then c.in_ok-body.body c.turns.made) more (h q (still_at c.args.tree.now c.turns.tree c.args.place q style c.turns.invariant.here at).names)))
 
 pub collecting::lmap-returns-in_err-set_walks-clause-runs : goal.collecting::lmap-returns-in_err-set_walks-clause-runs
 collecting::lmap-returns-in_err-set_walks-clause-runs g t c =
@@ -1619,14 +1619,14 @@ collecting::lmap-returns-in_err-set_walks-clause-runs g t c =
     let p = err_from_is_err_and c.from_residual-in_err-set_walks.result c.from_residual-in_err-set_walks.ensures.1 in
     fails_err c.from_residual-in_err-set_walks.result c.in_err-set_walks.field-0.0 p.0 _ _ _ p.1 p.2 c.in_err-set_walks.ensures.set
     (λ e h q style at.
-    let here = still_at _ _ c.args.place q style c.turns.invariant.keeps.steady at in
-    let after = still_at _ _ c.args.place q style (level_steady _ _ c.charge.ensures.level) here in
+    let here = still_at c.args.tree.now c.turns.tree c.args.place q style c.turns.invariant.here at in
+    let after = still_at _ _ c.args.place q style (level_here _ _ c.args.place c.charge.ensures.level) here in
     let counts = c.in_ok-charge.ensures.counted q here.names in
     c.turns.invariant.leads q style at _ _ _
     (Walking.turn_fails style (walks_at c.turns.turns c.in_ok-walks.walks.items) (gives (written_list c.turns.made)) (result_then c.in_ok-body.body c.turns.made) more counts
     (λ k. subst (λ (ws : List Walk). Does (sets_walks (walks_at c.turns.turns ws) (λ rest. k)) (tree_of c.charge.new.tree) q (tree_of c.set_walks.new.tree) e) c.as_slice-in-turns.ensures.value (h q after.names k))))
     (λ q style at.
-    let here = still_at _ _ c.args.place q style c.turns.invariant.keeps.steady at in
+    let here = still_at c.args.tree.now c.turns.tree c.args.place q style c.turns.invariant.here at in
     let counts = c.in_ok-charge.ensures.counted q here.names in
     c.turns.invariant.leads q style at _ _ _ (Walking.turn_given_up style (walks_at c.turns.turns c.in_ok-walks.walks.items) (gives (written_list c.turns.made)) (result_then c.in_ok-body.body c.turns.made) more counts))
 
@@ -1638,9 +1638,9 @@ collecting::lmap-returns-in_err-collects-clause-runs g t c =
     (Gathering.collected_err c.eval_value-ended.result c.in_err-collects.field-0.0 c.turns.made c.collects.new.made
     (EndsAt (ways g.O.Outside.goes g.O.Outside.loses) c.set_walks.new.tree c.charge.new.outside c.args.place (λ style. script c.turns.body) c.eval_value-ended.new.tree c.eval_value-ended.new.outside) c.in_err-collects.ensures c.eval_value-ended.ensures.runs)
     (λ e h q style at.
-    let here = still_at _ _ c.args.place q style c.turns.invariant.keeps.steady at in
-    let after = still_at _ _ c.args.place q style (level_steady _ _ c.charge.ensures.level) here in
-    let set = still_at _ _ c.args.place q style (level_steady _ _ c.set_walks.ensures.level) after in
+    let here = still_at c.args.tree.now c.turns.tree c.args.place q style c.turns.invariant.here at in
+    let after = still_at _ _ c.args.place q style (level_here _ _ c.args.place c.charge.ensures.level) here in
+    let set = still_at _ _ c.args.place q style (level_here _ _ c.args.place c.set_walks.ensures.level) after in
     let counts = c.in_ok-charge.ensures.counted q here.names in
     c.turns.invariant.leads q style at _ _ _
     (Walking.turn_begins style (walks_at c.turns.turns c.in_ok-walks.walks.items) (gives (written_list c.turns.made)) (result_then c.in_ok-body.body c.turns.made) more counts
@@ -1657,9 +1657,9 @@ collecting::lmap-returns-then-not-branch-clause-runs g t c =
     ran c.collected-then-not-branch.result (EndsBy (gives (written_list c.collects.new.made)))
     (EndsFrom (ways g.O.Outside.goes g.O.Outside.loses) c.args.tree.now c.args.outside.now c.args.place (λ style. lmap c.args.args.now) c.eval_value-ended.new.tree c.eval_value-ended.new.outside)
     (λ e h q style at.
-    let here = still_at _ _ c.args.place q style c.turns.invariant.keeps.steady at in
-    let after = still_at _ _ c.args.place q style (level_steady _ _ c.charge.ensures.level) here in
-    let set = still_at _ _ c.args.place q style (level_steady _ _ c.set_walks.ensures.level) after in
+    let here = still_at c.args.tree.now c.turns.tree c.args.place q style c.turns.invariant.here at in
+    let after = still_at _ _ c.args.place q style (level_here _ _ c.args.place c.charge.ensures.level) here in
+    let set = still_at _ _ c.args.place q style (level_here _ _ c.args.place c.set_walks.ensures.level) after in
     let counts = c.in_ok-charge.ensures.counted q here.names in
     c.turns.invariant.leads q style at _ _ _
     (Walking.turn_begins style (walks_at c.turns.turns c.in_ok-walks.walks.items) (gives (written_list c.turns.made)) (result_then c.in_ok-body.body c.turns.made) more counts
@@ -1669,9 +1669,9 @@ collecting::lmap-returns-then-not-branch-clause-runs g t c =
     (at_prog (x.2 (λ made. go (Lmap (map passed (walks_at c.turns.turns c.in_ok-walks.walks.items)) c.in_ok-body.body made) done))
     (Conditions.ends_by style (gives (written_list c.collects.new.made)) e h)))))
     (λ q style at.
-    let here = still_at _ _ c.args.place q style c.turns.invariant.keeps.steady at in
-    let after = still_at _ _ c.args.place q style (level_steady _ _ c.charge.ensures.level) here in
-    let set = still_at _ _ c.args.place q style (level_steady _ _ c.set_walks.ensures.level) after in
+    let here = still_at c.args.tree.now c.turns.tree c.args.place q style c.turns.invariant.here at in
+    let after = still_at _ _ c.args.place q style (level_here _ _ c.args.place c.charge.ensures.level) here in
+    let set = still_at _ _ c.args.place q style (level_here _ _ c.args.place c.set_walks.ensures.level) after in
     let counts = c.in_ok-charge.ensures.counted q here.names in
     c.turns.invariant.leads q style at _ _ _
     (Walking.turn_begins style (walks_at c.turns.turns c.in_ok-walks.walks.items) (gives (written_list c.turns.made)) (result_then c.in_ok-body.body c.turns.made) more counts
@@ -1687,9 +1687,9 @@ collecting::lmap-turns-preserved g t c =
     (EndsAt (ways g.O.Outside.goes g.O.Outside.loses) c.set_walks.new.tree c.charge.new.outside c.args.place (λ style. script c.turns.body) c.eval_value-ended.new.tree c.eval_value-ended.new.outside) c.in_ok-collects.ensures c.if-not-branch.false c.eval_value-ended.ensures.runs in
     record {
       leads = λ q style at V z r run.
-          let here = still_at _ _ c.args.place q style c.turns.invariant.keeps.steady at in
-          let after = still_at _ _ c.args.place q style (level_steady _ _ c.charge.ensures.level) here in
-          let set = still_at _ _ c.args.place q style (level_steady _ _ c.set_walks.ensures.level) after in
+          let here = still_at c.args.tree.now c.turns.tree c.args.place q style c.turns.invariant.here at in
+          let after = still_at _ _ c.args.place q style (level_here _ _ c.args.place c.charge.ensures.level) here in
+          let set = still_at _ _ c.args.place q style (level_here _ _ c.args.place c.set_walks.ensures.level) after in
           let counts = c.in_ok-charge.ensures.counted q here.names in
           c.turns.invariant.leads q style at _ _ _
           (Walking.turn_begins style (walks_at c.turns.turns c.in_ok-walks.walks.items) (gives (written_list c.turns.made)) (result_then c.in_ok-body.body c.turns.made) more counts
@@ -1737,7 +1737,7 @@ loops::uplevel-returns-clause-runs g t c =
     (EndsFrom (ways g.O.Outside.goes g.O.Outside.loses) c.args.tree.now c.args.outside.now c.args.place (λ style. uplevel style c.args.args.now) c.bring_back.new.tree c.eval_value-ended.new.outside)
     (λ e h q style at.
     let n = stands (tree_of c.args.tree.now q) (tree_there c.args.tree.now q _ at.names) in
-    let here = still_at c.args.tree.now c.set_aside.new.tree c.args.place q style (level_steady _ _ c.in_ok-set_aside.ensures.level) at in
+    let here = still_at c.args.tree.now c.set_aside.new.tree c.args.place q style (level_here _ _ c.args.place c.in_ok-set_aside.ensures.level) at in
     let after = still_at c.set_aside.new.tree c.eval_value-ended.new.tree c.args.place q style c.eval_value-ended.ensures.keeps.steady here in
     let m = stands (tree_of c.eval_value-ended.new.tree q) (tree_there c.eval_value-ended.new.tree q _ after.names) in
     Levelling.up_found style c.args.args.now c.in_ok-level.words.now c.in_ok-level.level n.1
@@ -1748,7 +1748,7 @@ loops::uplevel-returns-clause-runs g t c =
 -- what stays as it is, in conditions and loops
 
 pub expressions::if_first-condition-requires : goal.expressions::if_first-condition-requires
-expressions::if_first-condition-requires g t c κs within = (search rules, (search rules, still_running _ _ c.args.place c.tests.invariant.keeps.steady c.requires))
+expressions::if_first-condition-requires g t c κs within = (search rules, (search rules, still_running c.args.tree.now c.tests.tree c.args.place c.tests.invariant.here c.requires))
 
 pub expressions::if_first-returns-in_err-condition-clause-keeps : goal.expressions::if_first-returns-in_err-condition-clause-keeps
 expressions::if_first-returns-in_err-condition-clause-keeps g t c = keeps-trans c.tests.invariant.keeps c.condition.ensures.keeps
@@ -1757,7 +1757,7 @@ pub expressions::if_first-returns-in_err-body-clause-keeps : goal.expressions::i
 expressions::if_first-returns-in_err-body-clause-keeps g t c = keeps-trans c.tests.invariant.keeps c.condition.ensures.keeps
 
 pub expressions::if_first-eval_value-requires : goal.expressions::if_first-eval_value-requires
-expressions::if_first-eval_value-requires g t c κs within = (search rules, (search rules, let r = still_running _ _ c.args.place (steady-trans _ _ _ c.tests.invariant.keeps.steady c.condition.ensures.keeps.steady) c.requires in (r.0, r.1)))
+expressions::if_first-eval_value-requires g t c κs within = (search rules, (search rules, let r = still_running c.args.tree.now c.condition.new.tree c.args.place (here-trans c.args.tree.now c.tests.tree c.condition.new.tree c.args.place c.tests.invariant.here c.in_ok-condition.ensures.here) c.requires in (r.0, r.1)))
 
 pub expressions::if_first-returns-then-branch-clause-keeps : goal.expressions::if_first-returns-then-branch-clause-keeps
 expressions::if_first-returns-then-branch-clause-keeps g t c = keeps-trans c.tests.invariant.keeps (keeps-trans c.condition.ensures.keeps c.eval_value.ensures.keeps)
@@ -1772,10 +1772,10 @@ pub expressions::while_loop-returns-then-not-branch-clause-keeps : goal.expressi
 expressions::while_loop-returns-then-not-branch-clause-keeps g t c = keeps-trans c.turns.invariant.keeps c.turn.ensures.keeps
 
 pub expressions::for_loop-turn-requires : goal.expressions::for_loop-turn-requires
-expressions::for_loop-turn-requires g t c κs within = (search rules, (search rules, still_running _ _ c.args.place c.turns.invariant.keeps.steady c.requires))
+expressions::for_loop-turn-requires g t c κs within = (search rules, (search rules, still_running c.args.tree.now c.turns.tree c.args.place c.turns.invariant.here c.requires))
 
 pub expressions::for_loop-eval_value-requires-in-turns : goal.expressions::for_loop-eval_value-requires-in-turns
-expressions::for_loop-eval_value-requires-in-turns g t c κs within = (search rules, (search rules, let r = still_running _ _ c.args.place (steady-trans _ _ _ c.turns.invariant.keeps.steady c.turn.ensures.keeps.steady) c.requires in (r.0, r.1)))
+expressions::for_loop-eval_value-requires-in-turns g t c κs within = (search rules, (search rules, let r = still_running c.args.tree.now c.turn.new.tree c.args.place (here-trans c.args.tree.now c.turns.tree c.turn.new.tree c.args.place c.turns.invariant.here c.in_ok-turn.ensures.here) c.requires in (r.0, r.1)))
 
 pub loops::walk_through-returns-in_err-goes_on-clause-keeps : goal.loops::walk_through-returns-in_err-goes_on-clause-keeps
 loops::walk_through-returns-in_err-goes_on-clause-keeps g t c = keeps-trans c.turns.invariant.keeps (keeps-trans (charged_keeps c.charge.ensures.level c.charge.ensures.left) (keeps-trans (level_keeps _ c.set_walks.ensures.level) c.eval_value.ensures.keeps))
@@ -2002,7 +2002,7 @@ trying::handle-returns-in_err-keep_named-clause-runs g t c =
 
 pub trying::handle-run_handler-requires : goal.trying::handle-run_handler-requires
 trying::handle-run_handler-requires g t c κs within =
-    (search rules, (search rules, still_running _ _ c.args.place (level_steady _ _ c.keep_named.ensures.level) c.requires))
+    (search rules, (search rules, still_running c.args.tree.now c.keep_named.new.tree c.args.place (level_here _ _ c.args.place c.keep_named.ensures.level) c.requires))
 
 pub trying::handle-returns-clause-runs : goal.trying::handle-returns-clause-runs
 trying::handle-returns-clause-runs g t c =
@@ -2011,7 +2011,7 @@ trying::handle-returns-clause-runs g t c =
     (EndsFrom (ways g.O.Outside.goes g.O.Outside.loses) c.keep_named.new.tree c.args.outside.now c.args.place (λ style. runs_last (option_copied c.in-Some.script)) c.run_handler.new.tree c.run_handler.new.outside)
     (EndsFrom (ways g.O.Outside.goes g.O.Outside.loses) c.args.tree.now c.args.outside.now c.args.place (λ style. handled_by (completion_of c.args.completion) (handlers_of c.args.handlers.now)) c.run_handler.new.tree c.run_handler.new.outside)
     (λ e h q style at. at_prog some (Choosing.named_comes style c.in-Some.names.now (completion_of c.args.completion) (runs_last (option_copied c.in-Some.script)) (c.in_ok-keep_named.ensures.kept q at.names)
-    (h q style (still_at _ _ c.args.place q style (level_steady _ _ c.keep_named.ensures.level) at)))) c.run_handler.ensures.runs
+    (h q style (still_at _ _ c.args.place q style (level_here _ _ c.args.place c.keep_named.ensures.level) at)))) c.run_handler.ensures.runs
 
 pub trying::handle-returns-clause-keeps : goal.trying::handle-returns-clause-keeps
 trying::handle-returns-clause-keeps g t c =
@@ -2034,7 +2034,7 @@ trying::handled-returns-in_err-completion-clause-runs g t c =
 
 pub trying::handled-handle-requires : goal.trying::handled-handle-requires
 trying::handled-handle-requires g t c κs within =
-    (search rules, (search rules, still_running _ _ c.args.place c.eval_value.ensures.keeps.steady c.requires))
+    (search rules, (search rules, still_running c.args.tree.now c.eval_value.new.tree c.args.place (here_caught c.eval_value.result c.caught.result c.in_ok-completion.completion c.args.tree.now c.eval_value.new.tree c.args.place c.in_ok-completion.was c.caught.ensures c.eval_value.ensures.here) c.requires))
 
 pub trying::handled-returns-clause-runs : goal.trying::handled-returns-clause-runs
 trying::handled-returns-clause-runs g t c =
@@ -2044,7 +2044,7 @@ trying::handled-returns-clause-runs g t c =
     (EndsFrom (ways g.O.Outside.goes g.O.Outside.loses) c.eval_value.new.tree c.eval_value.new.outside c.args.place (λ style. handled_by (completion_of c.in_ok-completion.completion) (handlers_of c.args.handlers.now)) c.handle.new.tree c.handle.new.outside)
     (EndsFrom (ways g.O.Outside.goes g.O.Outside.loses) c.args.tree.now c.args.outside.now c.args.place (λ style. handled c.args.body.now (handlers_of c.args.handlers.now)) c.handle.new.tree c.handle.new.outside)
     (λ e h q style at. goes_on {i = Script c.args.body.now} (at_prog (ap script (sym c.in_ok-script.ensures.cases)) (caught q style (record { names = at.names; style_is = at.style_is })))
-    (h q style (still_at _ _ c.args.place q style c.eval_value.ensures.keeps.steady at))) c.handle.ensures.runs
+    (h q style (still_at c.args.tree.now c.eval_value.new.tree c.args.place q style (here_caught c.eval_value.result c.caught.result c.in_ok-completion.completion c.args.tree.now c.eval_value.new.tree c.args.place c.in_ok-completion.was c.caught.ensures c.eval_value.ensures.here) at))) c.handle.ensures.runs
 
 pub trying::handled-returns-clause-keeps : goal.trying::handled-returns-clause-keeps
 trying::handled-returns-clause-keeps g t c =
@@ -2099,7 +2099,7 @@ trying::try_script-returns-in_err-script-clause-runs g t c =
 
 pub trying::try_script-eval_value-requires : goal.trying::try_script-eval_value-requires
 trying::try_script-eval_value-requires g t c κs within =
-    (search rules, (search rules, let r = still_running _ _ c.args.place c.handled-ended.ensures.keeps.steady c.requires in (r.0, r.1)))
+    (search rules, (search rules, let r = still_running c.args.tree.now c.handled-ended.new.tree c.args.place (here_caught c.handled-ended.result c.caught.result c.in_ok-completion.completion c.args.tree.now c.handled-ended.new.tree c.args.place c.in_ok-completion.was c.caught.ensures c.handled-ended.ensures.here) c.requires in (r.0, r.1)))
 
 pub trying::try_script-returns-in_err-on_ok-clause-runs : goal.trying::try_script-returns-in_err-on_ok-clause-runs
 trying::try_script-returns-in_err-on_ok-clause-runs g t c =
@@ -2112,7 +2112,7 @@ trying::try_script-returns-in_err-on_ok-clause-runs g t c =
     c.in_err-on_ok.ensures.same c.eval_value.ensures.runs c.in_err-on_ok.ensures.stays)
     (λ e h q style at.
     let same = c.integers.ensures ∙ at.style_is in
-    let after = still_at _ _ c.args.place q style c.handled-ended.ensures.keeps.steady at in
+    let after = still_at c.args.tree.now c.handled-ended.new.tree c.args.place q style (here_caught c.handled-ended.result c.caught.result c.in_ok-completion.completion c.args.tree.now c.handled-ended.new.tree c.args.place c.in_ok-completion.was c.caught.ensures c.handled-ended.ensures.here) at in
     Choosing.try_begins style c.args.args.now (take (length c.args.args.now - 1) (drop 1 c.args.args.now)) c.body-item.result (tried_seen c.in_ok-tried.tried) (split_first c.args.args.now c.body-item.result c.in-len1-up.len_at_least c.body-item.is) (ap (λ (s : Integers). tried_of s (take (length c.args.args.now - 1) (drop 1 c.args.args.now))) (sym same) ∙ c.in_ok-tried.ensures)
     (Choosing.finish_stays style c.body-item.result (handlers_of c.in_ok-tried.tried.handlers.items) (option_copied c.in_ok-tried.tried.last) c.in-Some.last.now (completion_of c.in_ok-completion.completion) e some h.1 (at_prog (ap (λ (hs : List TriedHandler). handled c.body-item.result (handlers_of hs)) (sym c.as_slice.ensures.value)) (caught q style at))
     (at_prog (ap script (sym c.in_ok-script.ensures.cases)) (h.0 q style (record { names = after.names; style_is = after.style_is })))))
@@ -2131,13 +2131,13 @@ trying::try_script-returns-clause-runs g t c =
     (EndsFrom (ways g.O.Outside.goes g.O.Outside.loses) c.args.tree.now c.args.outside.now c.args.place (λ style. try_script style c.args.args.now) c.eval_value.new.tree c.eval_value.new.outside)
     (λ e h q style at.
     let same = c.integers.ensures ∙ at.style_is in
-    let after = still_at _ _ c.args.place q style c.handled-ended.ensures.keeps.steady at in
+    let after = still_at c.args.tree.now c.handled-ended.new.tree c.args.place q style (here_caught c.handled-ended.result c.caught.result c.in_ok-completion.completion c.args.tree.now c.handled-ended.new.tree c.args.place c.in_ok-completion.was c.caught.ensures c.handled-ended.ensures.here) at in
     Choosing.try_begins style c.args.args.now (take (length c.args.args.now - 1) (drop 1 c.args.args.now)) c.body-item.result (tried_seen c.in_ok-tried.tried) (split_first c.args.args.now c.body-item.result c.in-len1-up.len_at_least c.body-item.is) (ap (λ (s : Integers). tried_of s (take (length c.args.args.now - 1) (drop 1 c.args.args.now))) (sym same) ∙ c.in_ok-tried.ensures)
     (Choosing.finish_goes style c.body-item.result (handlers_of c.in_ok-tried.tried.handlers.items) (option_copied c.in_ok-tried.tried.last) c.in-Some.last.now (completion_of c.in_ok-completion.completion) x.0 c.in_ok-on_ok.field-0 some x.2 x.3 (at_prog (ap (λ (hs : List TriedHandler). handled c.body-item.result (handlers_of hs)) (sym c.as_slice.ensures.value)) (caught q style at))
     (at_prog (ap script (sym c.in_ok-script.ensures.cases)) (x.1 q style (record { names = after.names; style_is = after.style_is }))) (at_reply h completed)))
     (λ q style at.
     let same = c.integers.ensures ∙ at.style_is in
-    let after = still_at _ _ c.args.place q style c.handled-ended.ensures.keeps.steady at in
+    let after = still_at c.args.tree.now c.handled-ended.new.tree c.args.place q style (here_caught c.handled-ended.result c.caught.result c.in_ok-completion.completion c.args.tree.now c.handled-ended.new.tree c.args.place c.in_ok-completion.was c.caught.ensures c.handled-ended.ensures.here) at in
     Choosing.try_begins style c.args.args.now (take (length c.args.args.now - 1) (drop 1 c.args.args.now)) c.body-item.result (tried_seen c.in_ok-tried.tried) (split_first c.args.args.now c.body-item.result c.in-len1-up.len_at_least c.body-item.is) (ap (λ (s : Integers). tried_of s (take (length c.args.args.now - 1) (drop 1 c.args.args.now))) (sym same) ∙ c.in_ok-tried.ensures)
     (Choosing.finish_goes style c.body-item.result (handlers_of c.in_ok-tried.tried.handlers.items) (option_copied c.in_ok-tried.tried.last) c.in-Some.last.now (completion_of c.in_ok-completion.completion) x.0 c.in_ok-on_ok.field-0 some x.2 x.3 (at_prog (ap (λ (hs : List TriedHandler). handled c.body-item.result (handlers_of hs)) (sym c.as_slice.ensures.value)) (caught q style at))
     (at_prog (ap script (sym c.in_ok-script.ensures.cases)) (x.1 q style (record { names = after.names; style_is = after.style_is }))) stopped))
@@ -2293,10 +2293,10 @@ hosting::make_call-returns-in_err-reply-clause-runs g t c =
 pub hosting::make_call-returns-clause-runs : goal.hosting::make_call-returns-clause-runs
 hosting::make_call-returns-clause-runs g t c =
     call_answered (ways g.O.Outside.goes g.O.Outside.loses) c.args.tree.now c.ask.new.tree c.answer.new.tree c.args.outside.now c.ask.new.outside c.args.place c.args.call.now (request_of c.in_ok-request.request) (reply_of c.in_ok-reply.reply) c.answer.result
-    c.in_ok-request.ensures c.in_ok-reply.ensures.runs c.ask.ensures.keeps.steady c.answer.ensures.acts
+    c.in_ok-request.ensures c.in_ok-reply.ensures.runs c.in_ok-reply.ensures.here c.answer.ensures.acts
 
 pub hosting::make_call-answer-requires : goal.hosting::make_call-answer-requires
-hosting::make_call-answer-requires g t c = let r = still_running _ _ c.args.place c.ask.ensures.keeps.steady c.requires in (r.0, r.1)
+hosting::make_call-answer-requires g t c = let r = still_running c.args.tree.now c.ask.new.tree c.args.place c.in_ok-reply.ensures.here c.requires in (r.0, r.1)
 
 pub hosting::make_call-returns-clause-keeps : goal.hosting::make_call-returns-clause-keeps
 hosting::make_call-returns-clause-keeps g t c = keeps-trans c.ask.ensures.keeps (level_keeps _ c.answer.ensures.level)
@@ -2341,12 +2341,12 @@ sourcing::source_file-returns-in_err-script-clause-runs g t c =
     ran_err c.from_residual.result c.in_err-script.field-0.0 p.0 _ _ _ p.1 p.2 c.in_err-script.ensures.runs (λ e h. h)
 
 pub sourcing::source_file-eval_file-requires : goal.sourcing::source_file-eval_file-requires
-sourcing::source_file-eval_file-requires g t c κs within = (search rules, (search rules, still_running _ _ c.args.place c.read_file.ensures.keeps.steady c.requires))
+sourcing::source_file-eval_file-requires g t c κs within = (search rules, (search rules, still_running c.args.tree.now c.read_file.new.tree c.args.place c.in_ok-script.ensures.here c.requires))
 
 pub sourcing::source_file-returns-clause-runs : goal.sourcing::source_file-returns-clause-runs
 sourcing::source_file-returns-clause-runs g t c =
     script_goes (ways g.O.Outside.goes g.O.Outside.loses) c.args.tree.now c.read_file.new.tree c.eval_file.new.tree c.args.outside.now c.read_file.new.outside c.eval_file.new.outside c.args.place (sourcing.sources c.args.file.now) c.in_ok-script.script c.eval_file.result
-    c.in_ok-script.ensures.runs c.read_file.ensures.keeps.steady c.eval_file.ensures.runs
+    c.in_ok-script.ensures.runs c.in_ok-script.ensures.here c.eval_file.ensures.runs
 
 pub sourcing::source_file-returns-clause-keeps : goal.sourcing::source_file-returns-clause-keeps
 sourcing::source_file-returns-clause-keeps g t c = keeps-trans c.read_file.ensures.keeps c.eval_file.ensures.keeps
@@ -2374,7 +2374,7 @@ sourcing::read_file-returns-in_err-channel-clause-runs g t c =
     p.1 p.2 c.in_err-channel.ensures
 
 pub sourcing::read_file-read_channel-requires : goal.sourcing::read_file-read_channel-requires
-sourcing::read_file-read_channel-requires g t c κs within = (search rules, (search rules, still_running _ _ c.args.place c.ask.ensures.keeps.steady c.requires))
+sourcing::read_file-read_channel-requires g t c κs within = (search rules, (search rules, still_running c.args.tree.now c.ask.new.tree c.args.place c.in_ok-reply.ensures.here c.requires))
 
 pub sourcing::read_file-returns-clause-runs : goal.sourcing::read_file-returns-clause-runs
 sourcing::read_file-returns-clause-runs g t c =
@@ -2382,7 +2382,7 @@ sourcing::read_file-returns-clause-runs g t c =
     reads_after (ways g.O.Outside.goes g.O.Outside.loses) c.args.tree.now c.ask.new.tree c.read_channel.new.tree c.args.outside.now c.ask.new.outside c.read_channel.new.outside c.args.place (sourcing.sources c.args.file.now) (sourcing.reads_script c.args.file.now c.in_ok-channel.channel) c.read_channel.result
     (λ q style at V w e h. reads_heard (ways g.O.Outside.goes g.O.Outside.loses) c.args.tree.now c.ask.new.tree c.ask.new.tree c.args.outside.now c.ask.new.outside c.ask.new.outside c.args.place (sourcing.sources c.args.file.now) (asking.Request.Open c.in_ok-clone.field-0 (codes "r")) (sourcing.script_opened c.args.file.now) (reply_of c.in_ok-reply.reply)
     (ap (λ (x : Text). hosting.asks (asking.Request.Open x (codes "r")) (sourcing.script_opened c.args.file.now)) (sym file)) c.in_ok-reply.ensures.runs q style at V w e (at_prog c.in_ok-channel.ensures h))
-    c.ask.ensures.keeps.steady c.read_channel.ensures.runs
+    c.in_ok-reply.ensures.here c.read_channel.ensures.runs
 
 pub sourcing::read_file-returns-clause-keeps : goal.sourcing::read_file-returns-clause-keeps
 sourcing::read_file-returns-clause-keeps g t c = keeps-trans c.ask.ensures.keeps c.read_channel.ensures.keeps
@@ -2406,7 +2406,7 @@ sourcing::read_channel-returns-in_err-read-clause-runs g t c =
     c.from_residual-in_err-read.result c.in_err-read.field-0.0 p.0 (ap (λ (x : Text). hosting.asks (asking.Request.ReadAll x) (λ read. hosting.asks (asking.Request.Close c.args.channel.now) (sourcing.closed c.args.file.now read))) (sym channel)) p.1 p.2 c.in_err-read.ensures.runs
 
 pub sourcing::read_channel-ask-requires-2 : goal.sourcing::read_channel-ask-requires-2
-sourcing::read_channel-ask-requires-2 g t c κs within = (search rules, (search rules, still_running _ _ c.args.place c.ask.ensures.keeps.steady c.requires))
+sourcing::read_channel-ask-requires-2 g t c κs within = (search rules, (search rules, still_running c.args.tree.now c.ask.new.tree c.args.place c.in_ok-read.ensures.here c.requires))
 
 pub sourcing::read_channel-returns-in_err-closed-clause-runs : goal.sourcing::read_channel-returns-in_err-closed-clause-runs
 sourcing::read_channel-returns-in_err-closed-clause-runs g t c =
@@ -2416,7 +2416,7 @@ sourcing::read_channel-returns-in_err-closed-clause-runs g t c =
     heard_once (ways g.O.Outside.goes g.O.Outside.loses) c.args.tree.now c.ask.new.tree c.ask-2.new.tree c.args.outside.now c.ask.new.outside c.ask-2.new.outside c.args.place (sourcing.reads_script c.args.file.now c.args.channel.now) (asking.Request.ReadAll c.in_ok-clone.field-0) (asking.Request.Close c.in_ok-clone-2.field-0)
     (sourcing.closed c.args.file.now) (reply_of c.in_ok-read.read) c.from_residual-in_err-closed.result c.in_err-closed.field-0.0 p.0
     (λ i. hosting.asks (asking.Request.ReadAll (sym channel i)) (λ read. hosting.asks (asking.Request.Close (sym closes i)) (sourcing.closed c.args.file.now read)))
-    c.in_ok-read.ensures.runs c.ask.ensures.keeps.steady p.1 p.2 c.in_err-closed.ensures.runs
+    c.in_ok-read.ensures.runs c.in_ok-read.ensures.here p.1 p.2 c.in_err-closed.ensures.runs
 
 pub sourcing::read_channel-returns-in_err-closed-clause-keeps : goal.sourcing::read_channel-returns-in_err-closed-clause-keeps
 sourcing::read_channel-returns-in_err-closed-clause-keeps g t c = keeps-trans c.ask.ensures.keeps c.ask-2.ensures.keeps
@@ -2429,7 +2429,7 @@ sourcing::read_channel-returns-clause-runs g t c =
     (heard_twice (ways g.O.Outside.goes g.O.Outside.loses) c.args.tree.now c.ask.new.tree c.ask-2.new.tree c.args.outside.now c.ask.new.outside c.ask-2.new.outside c.args.place (sourcing.reads_script c.args.file.now c.args.channel.now) (asking.Request.ReadAll c.in_ok-clone.field-0) (asking.Request.Close c.in_ok-clone-2.field-0)
     (sourcing.closed c.args.file.now) (reply_of c.in_ok-read.read) (reply_of c.in_ok-closed.closed)
     (λ i. hosting.asks (asking.Request.ReadAll (sym channel i)) (λ read. hosting.asks (asking.Request.Close (sym closes i)) (sourcing.closed c.args.file.now read)))
-    c.in_ok-read.ensures.runs c.ask.ensures.keeps.steady c.in_ok-closed.ensures.runs) c.script_of_file.ensures
+    c.in_ok-read.ensures.runs c.in_ok-read.ensures.here c.in_ok-closed.ensures.runs) c.script_of_file.ensures
 
 pub sourcing::read_channel-returns-clause-keeps : goal.sourcing::read_channel-returns-clause-keeps
 sourcing::read_channel-returns-clause-keeps g t c = keeps-trans c.ask.ensures.keeps c.ask-2.ensures.keeps
