@@ -11,10 +11,11 @@ use Rattle.tcl_flow.specs.declared.stop.StopKind.{StopKind}
 use Rattle.tcl_flow.specs.declared.stop.StopKind.TheVariants as stop
 use Rattle.tcl_text.specs.Messages as messages
 
--- the text of a limit
+-- the text of a stop
 abbrev pub limit_text : StopKind → Text
 limit_text stop.Count = messages.count_limit
 limit_text stop.Depth = messages.depth_limit
+limit_text stop.Gone = codes "interpreter was deleted"
 
 -- a code and a text
 abbrev pub code_text : ℤ → Text → Text

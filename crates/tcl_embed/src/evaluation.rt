@@ -5,6 +5,7 @@ ghost use Rattle.tcl_embed.specs.Ends.{code_text, completion_text, end_text, lim
 ghost use Rattle.tcl_embed.specs.Ends.{open_end_text};
 
 use std::alloc::{AllocError, Global};
+use tcl_flow::messages::DELETED;
 use tcl_flow::stop::StopKind;
 use tcl_text::messages::{COUNT_LIMIT, DEPTH_LIMIT};
 
@@ -92,12 +93,13 @@ fn code_text(alloc: Global, code: i64, text: &str) -> Result<String, AllocError>
     Ok(made)
 }
 
-/// The text of a limit that was met.
+/// The text of a stop.
 fn limit_text(kind: StopKind) -> &'static str
     ensures { result.now ≡ limit_text kind }
 {
     match kind {
         StopKind::Count => COUNT_LIMIT,
         StopKind::Depth => DEPTH_LIMIT,
+        StopKind::Gone => DELETED,
     }
 }

@@ -36,6 +36,7 @@ texts_data texts = array (items_of (map string texts))
 abbrev pub limit_name : StopKind → Text
 limit_name stop.Count = codes "count"
 limit_name stop.Depth = codes "depth"
+limit_name stop.Gone = codes "gone"
 
 abbrev pub ended_data : Ended → Data
 ended_data (ended.Completed code text) = object (member (codes "code") (number (of_integer code))

@@ -111,13 +111,14 @@ fn text_value(alloc: Global, text: &Option<Text>) -> Result<Value, AllocError>
     }
 }
 
-/// The name of a limit.
+/// The name of a limit. (That the root is gone can't come.)
 fn limit_name(kind: StopKind) -> &'static str
     ensures { result.now ≡ limit_name kind }
 {
     match kind {
         StopKind::Count => "count",
         StopKind::Depth => "depth",
+        StopKind::Gone => "gone",
     }
 }
 

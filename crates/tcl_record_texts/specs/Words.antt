@@ -2,11 +2,12 @@
 use Rattle.std.specs.Fmt.{decimal, signed_decimal}
 use Rattle.std.specs.Prelude.{ℕ, Bool, true, false, List, [], ◌∷◌, codes, length, Option, Some}
 use Rattle.std.specs.Prelude.{None}
-use Rattle.tcl_core.specs.Endings.{Meter, Reply}
+use Rattle.tcl_core.specs.Endings.{Kind, Reply}
+use Rattle.tcl_core.specs.Endings.Kind.{Full, Gone}
 use Rattle.tcl_core.specs.Endings.Meter.{Count, Depth}
 use Rattle.tcl_core.specs.Endings.Reply.{Completed, Stop, Exit, Cut}
 use Rattle.tcl_core.specs.Entries.{Answer, Entry, HostReply, Question, Request}
-use Rattle.tcl_core.specs.Entries.Answer.{Replied, Heard}
+use Rattle.tcl_core.specs.Entries.Answer.{Replied, Heard, Nobody}
 use Rattle.tcl_core.specs.Entries.Entry.{Eval, CallWords, InvokeHidden, SetAlias, ClearAlias, Hide}
 use Rattle.tcl_core.specs.Entries.Entry.{Expose, SetCountLimit, SetDepthLimit, Create, Delete, Ask}
 use Rattle.tcl_core.specs.Entries.Entry.{AskHost}
@@ -72,13 +73,15 @@ entry_words (AskHost request) = request_words request
 
 -- ## How it ended
 
-abbrev pub meter_word : Meter → Text
-meter_word Count = codes "commands"
-meter_word Depth = codes "recursionlimit"
+-- what a stop was raised for
+abbrev pub kind_word : Kind → Text
+kind_word (Full Count) = codes "commands"
+kind_word (Full Depth) = codes "recursionlimit"
+kind_word Gone = codes "deleted"
 
 abbrev pub reply_words : Reply → List Text
 reply_words (Completed c) = codes "code" ∷ signed_decimal c.code ∷ c.text ∷ []
-reply_words (Stop n m) = codes "stop" ∷ decimal n ∷ meter_word m ∷ []
+reply_words (Stop n k) = codes "stop" ∷ decimal n ∷ kind_word k ∷ []
 reply_words (Exit n) = codes "exit" ∷ signed_decimal n ∷ []
 reply_words (Cut c) = codes "ended" ∷ []
 
@@ -96,6 +99,7 @@ heard_words (Fails number) = codes "refused" ∷ decimal number ∷ []
 abbrev pub answer_words : Answer → List Text
 answer_words (Replied r) = reply_words r
 answer_words (Heard a) = heard_words a
+answer_words Nobody = codes "nobody" ∷ []
 
 -- ## Crossings
 

@@ -12,9 +12,11 @@
 //!
 //! What is asked is `eval` and a script, `call` and words, `invokehidden` and words, or the name
 //! of another command and its words. How it ended is `code`, a number and a text; `stop`, the
-//! levels up to the interpreter whose limit it is, and `commands` or `recursionlimit`; `exit` and a
-//! status; or `ended`, by the outside. What the host says is a word, and what belongs to it: of
-//! bytes that it read how many they are. In place of each newline stand a backslash and an `n`.
+//! levels up to the interpreter that it names, and whose limit it is, `commands` or
+//! `recursionlimit`, or `deleted`; `exit` and a status; or `ended`, by the outside. What the host
+//! says is a word, and what belongs to it: of bytes that it read how many they are. Where nobody is
+//! there who could answer the call, `nobody` stands there. In place of each newline stand a
+//! backslash and an `n`.
 ghost use Rattle.std.specs.Prelude.{◌≡◌, ◌++◌, ◌∷◌, IfOk, OnOk};
 ghost use Rattle.std.specs.String.{string_bytes};
 ghost use Rattle.tcl_record_texts.specs.Lines.{event_lines, line, lines, one_line, outcome_text};

@@ -1,7 +1,7 @@
 //! How an entry or a call ended, in words.
 ghost use Rattle.std.specs.Prelude.{◌≡◌, IfOk};
-ghost use Rattle.tcl_flow.specs.Stopping.{meter_of};
-ghost use Rattle.tcl_record_texts.specs.Words.{answer_words, heard_words, meter_word, reply_words};
+ghost use Rattle.tcl_flow.specs.Stopping.{kind_of};
+ghost use Rattle.tcl_record_texts.specs.Words.{answer_words, heard_words, kind_word, reply_words};
 ghost use Rattle.tcl_recorder.specs.Crossings.{answer_of, reply_of};
 ghost use Rattle.tcl_run.specs.Outsides as outsides;
 
@@ -12,13 +12,14 @@ use tcl_host::reply::{HostRefusal, HostReply};
 use tcl_recorder::crossing::{Answer, Reply};
 use tcl_text::text::Text;
 
-/// What a limit is set for.
-fn meter_word(kind: StopKind) -> &'static str
-    ensures { result.now ≡ meter_word (meter_of kind) }
+/// What a stop was raised for.
+fn kind_word(kind: StopKind) -> &'static str
+    ensures { result.now ≡ kind_word (kind_of kind) }
 {
     match kind {
         StopKind::Count => "commands",
         StopKind::Depth => "recursionlimit",
+        StopKind::Gone => "deleted",
     }
 }
 
@@ -34,7 +35,7 @@ pub(crate) fn reply_words(alloc: Global, reply: &Reply) -> Result<Vec<Text>, All
         }
         Reply::Stopped(stop) => {
             let levels = count_text(alloc, stop.levels_up)?;
-            let kind = Text::new(alloc, meter_word(stop.kind))?;
+            let kind = Text::new(alloc, kind_word(stop.kind))?;
             three(alloc, "stop", &levels, &kind)
         }
         Reply::Exited(status) => two(alloc, "exit", &code_text(alloc, *status)?),
@@ -80,5 +81,6 @@ pub(crate) fn answer_words(alloc: Global, answer: &Answer) -> Result<Vec<Text>, 
     match answer {
         Answer::Replied(reply) => reply_words(alloc, reply),
         Answer::Heard(reply) => heard_words(alloc, reply),
+        Answer::Nobody => one(alloc, "nobody"),
     }
 }

@@ -28,6 +28,7 @@ pub(crate) fn end(alloc: Global, end: &End) -> Result<String, AllocError> {
         End::Done(completion) => completed(alloc, completion),
         End::Stopped(StopKind::Count) => String::from_str(alloc, "stopped by count"),
         End::Stopped(StopKind::Depth) => String::from_str(alloc, "stopped by depth"),
+        End::Stopped(StopKind::Gone) => String::from_str(alloc, "deleted"),
         End::Exit(status) => format!(in alloc; "exit {status}"),
     }
 }

@@ -17,12 +17,12 @@ use Rattle.tcl_tree.specs.Nodes.{follow}
 use Rattle.tcl_tree.specs.TreeOf.{tree_of, key_of, marks_of, Names}
 use Rattle.tcl_tree.specs.Gone.{Holds, held_of}
 use Rattle.tcl_tree.specs.Held as holdings
-use Rattle.tcl_tree.specs.Held.{Deepens, IsInnermost, Over, Shallows, Stays, StoodAt}
+use Rattle.tcl_tree.specs.Held.{Deepens, IsInnermost, Shallows, Stays, StoodAt}
 use Rattle.tcl_tree.proofs.PathLemmas.{snoc_ind}
 use Rattle.tcl_tree.proofs.CoreLemmas.{tree_gone, tree_there}
 use Rattle.tcl_tree.proofs.HeapLemmas.{last_step, one_path}
-use Rattle.tcl_tree.proofs.HeldLemmas.{depth_tree, follow_there, link-above, over_cases, over_path, same_above}
-use Rattle.tcl_tree.proofs.StayLemmas.{stays_around, stays_held, stays_innermost, stays_same, stays_then, stood_before}
+use Rattle.tcl_tree.proofs.HeldLemmas.{depth_tree, link-above, same_above}
+use Rattle.tcl_tree.proofs.StayLemmas.{began_holds, began_innermost, over_or_not, over_there, stays_around, stays_held, stays_same, stays_then, stood_before}
 use Rattle.tcl_tree.proofs.StepLemmas.{follow_append}
 use Rattle.tcl_tree.proofs.WayLemmas.{follow_stood, gone_some}
 use Rattle.tcl_core.specs.Runs.{gone}
@@ -450,26 +450,16 @@ changed_level s t p own m k held e = record {
 -- It begins in the interpreter at p, and others go on until control is there again.
 module _ (s t u : Table) (place : TablePlace) (p : Path) (named : Names s place p) (keys₁ : (q : Path) → key_of t q ≡ key_of s q)
     (deep : Deepens (held_of s) place.key (held_of t)) (nested : tree_of t ≡ effect p Nested (tree_of s)) (h : IsSteady t u) where
-  over_or_not : (a : ℕ) → Over (held_of s) a place.key ⊎ (Over (held_of s) a place.key → Prim.⊥)
-  over_or_not a = over_cases (get s.nodes) s.root s.ordered a place.key
-
-  over_there : (a : ℕ) → Over (held_of s) a place.key → is_some (held_of s a) ≡ true
-  over_there a w =
-      let q = over_path (get s.nodes) s.root s.ordered s.sound a p place.key named w in
-      follow_there (get s.nodes) s.root s.sound s.ordered q.0 a q.2
-
   pub nested_used : InUse (tree_of t) p
   nested_used = begun_at s t place p named nested
 
   -- it is in progress still, there or in one that is gone
   pub nested_holds : Holds u place p 1
-  nested_holds =
-      let d = used_key t p place.key (keys₁ p ∙ named) nested_used in
-      stays_held t u h.stays place p (keys₁ p ∙ named) d 1 (omega arith) d
+  nested_holds = began_holds s place p named t u keys₁ deep h.stays
 
   -- and it is the last one that began there
   pub nested_innermost : IsInnermost (held_of u) place.key
-  nested_innermost = stays_innermost (held_of s) (held_of t) (held_of u) s.ordered.depths place.key over_there over_or_not deep h.stays
+  nested_innermost = began_innermost s place p named t u keys₁ deep h.stays
 
   module _ (v : Table) (keys₂ : (q : Path) → key_of v q ≡ key_of u q) (shallow : Shallows (held_of u) place.key (held_of v)) (unnested : tree_of v ≡ effect p Unnested (tree_of u)) where
     steps_before : (q : Path) → steps_of (tree_of t q) ≡ steps_of (tree_of s q)
@@ -488,7 +478,7 @@ module _ (s t u : Table) (place : TablePlace) (p : Path) (named : Names s place 
     pub nested_steady : marks_of t ≡ marks_of s → marks_of v ≡ marks_of u → IsSteady s v
     nested_steady m1 m2 = record {
       marks = m2 ∙ h.marks ∙ m1;
-      stays = stays_around (held_of s) (held_of t) (held_of u) s.ordered.depths place.key over_there over_or_not deep h.stays s.ordered.used (held_of v) shallow;
+      stays = stays_around (held_of s) (held_of t) (held_of u) s.ordered.depths place.key (over_there s place p named) (over_or_not s place p named) deep h.stays s.ordered.used (held_of v) shallow;
       counts = λ q k used at there. steps_around q (h.counts q k (deeper_in_use (tree_of s) (tree_of t) p q nested used) (keys₁ q ∙ at) (sym (keys₂ q) ∙ there));
       top = back_again (tree_of s) (tree_of t) (tree_of u) (tree_of v) p [] nested unnested h.top;
       counted = counted-trans (tree_of s []) (tree_of t []) (tree_of v []) (same_counted (tree_of s []) (tree_of t []) (steps_before []))

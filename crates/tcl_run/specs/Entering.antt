@@ -1,5 +1,4 @@
 -- What an interpreter is asked for, in the words of the core.
-use Rattle.std.specs.Prelude.{◌-◌, drop}
 use Rattle.tcl_core.specs.Entries as core
 use Rattle.tcl_core.specs.Entries.Entry.{Eval, CallWords, InvokeHidden, SetAlias, ClearAlias, Hide}
 use Rattle.tcl_core.specs.Entries.Entry.{Expose, SetCountLimit, SetDepthLimit, Create, Delete, Ask}
@@ -7,8 +6,7 @@ use Rattle.tcl_core.specs.Entries.Entry.{AskHost}
 use Rattle.tcl_core.specs.Entries.Request.{Open, ReadLine, ReadAll, Write, Flush, Close, AtEnd}
 use Rattle.tcl_core.specs.Entries.Question.{Exists, IsSafe, Aliases, AliasOf, Hidden, Slaves}
 use Rattle.tcl_core.specs.Entries.Question.{CountLimitOf, DepthLimitOf}
-use Rattle.tcl_core.specs.Paths.{Text, Path}
-use Rattle.tcl_interpreter.specs.Commands.{detour}
+use Rattle.tcl_core.specs.Paths.{Text}
 use Rattle.tcl_host.specs.declared.open_mode.OpenMode.{OpenMode}
 use Rattle.tcl_host.specs.declared.open_mode.OpenMode.TheVariants as mode
 use Rattle.tcl_host.specs.declared.request.Request.{Request}
@@ -70,12 +68,3 @@ whole_entry (entry.AskHost request) = AskHost (request_of request)
 abbrev pub IsOwn : Entry → Type 0
 IsOwn (entry.Own own) = Unit {0}
 IsOwn e = Prim.⊥
-
--- ## What is handed in from outside of the tree
-
--- An entry that is handed in for the interpreter at t, as it enters there. An alias that it sets
--- has no way that goes up and comes down again by the same names.
-abbrev pub handed : Path → core.Entry → core.Entry
-handed t (SetAlias name up down words) = SetAlias name (up - detour t up down)
-    (drop (detour t up down) down) words
-handed t i = i

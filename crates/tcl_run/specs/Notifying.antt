@@ -10,7 +10,7 @@ use Rattle.tcl_core.specs.Runs.{carried, gone}
 use Rattle.tcl_core.specs.Trees as core
 use Rattle.tcl_core.specs.Trees.What.{Dropped, Out, In, Done, Back, Unfound}
 use Rattle.tcl_run.specs.Ends.{IfEnded}
-use Rattle.tcl_run.specs.Entering.{handed, whole_entry}
+use Rattle.tcl_run.specs.Entering.{whole_entry}
 use Rattle.tcl_run.specs.Outsides.{Going, Enters, Returns, Misses}
 use Rattle.tcl_run.specs.declared.outside.Happening.{Happening}
 use Rattle.tcl_run.specs.declared.outside.Happening.TheVariants as happening
@@ -23,7 +23,7 @@ use Rattle.tcl_tree.specs.declared.tree.Tree.{Tree}
 -- was told that: from the state before that goes to z.
 abbrev pub WasUnfound : {S : Type 0} → Going S → core.Tree Own → S → Path → Entry → Reply → S →
     Type 0
-WasUnfound {S} goes T o t i r z = (c : Completion) (before : S) → r ≡ Completed c →
+WasUnfound {S} goes T o t i r z = (c : Completion) (before : S) → r ≡ Completed c → T t ≡ None →
     goes T before None (event t (In None i)) o → goes T before None (event [] (Unfound t i c)) z
 
 -- Told of a child that was dropped; of a call within the tree, of its answer, or of one that finds
@@ -60,4 +60,4 @@ Notified goes hands_in t o (happening.ExitCameBack caller up entry status) z =
     (event p (Back up (Replied (Exit status)))) z
 Notified goes hands_in t o (happening.Unfound target entry told) z =
     hands_in → IfEnded told.now (λ r.
-    WasUnfound goes (tree_of t) o target.now (handed target.now (whole_entry entry.now)) r z)
+    WasUnfound goes (tree_of t) o target.now (whole_entry entry.now) r z)

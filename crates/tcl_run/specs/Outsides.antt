@@ -19,7 +19,7 @@ use Rattle.tcl_host.specs.declared.reply.HostRefusal.{HostRefusal}
 use Rattle.tcl_host.specs.declared.reply.HostRefusal.TheVariants as refusal
 use Rattle.tcl_host.specs.declared.request.Request.{Request as TheirRequest}
 use Rattle.tcl_run.specs.Ends.{Interrupts}
-use Rattle.tcl_run.specs.Entering.{handed, request_of, whole_entry}
+use Rattle.tcl_run.specs.Entering.{request_of, whole_entry}
 use Rattle.tcl_run.specs.declared.interruption.Interruption.{Interruption}
 use Rattle.tcl_run.specs.declared.outside.Turn.{Turn}
 use Rattle.tcl_run.specs.declared.outside.Turn.TheVariants as turn
@@ -104,7 +104,7 @@ IsAsked (Some n) i = Unit {0}
 abbrev pub ComesNext : {S : Type 0} → Going S → Type 0 → Tree Own → S → Path → ℕ → Height → Entry →
     S → Result Turn Interruption → Type 0
 ComesNext goes hands_in T o p d h i z (Ok (turn.Entry target entry)) = goes T o None
-    (event target.items (In None (handed target.items (whole_entry entry)))) z × hands_in
+    (event target.items (In None (whole_entry entry))) z × hands_in
 ComesNext goes hands_in T o p d h i z (Ok (turn.Completed text)) = AnswersFor goes T o p d h i z
     (Replied (Completed (ok text)))
 ComesNext goes hands_in T o p d h i z (Ok (turn.Heard reply)) = AnswersFor goes T o p d h i z

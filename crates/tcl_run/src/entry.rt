@@ -171,27 +171,7 @@ fn copy_request(request: &Request) -> Result<Request, AllocError>
 
 impl Entry {
     ghost use Rattle.tcl_core.specs.Entries.Entry.{CallWords};
-    ghost use Rattle.tcl_core.specs.Paths.{Path};
-    ghost use Rattle.tcl_run.specs.Entering.{handed, whole_entry};
-
-    /// The entry as it enters where it is handed in for the interpreter at a path from outside of
-    /// the tree: an alias that it sets has no way that goes up and comes down again by the same
-    /// names.
-    ///
-    /// # Errors
-    /// Want of memory.
-    pub fn handed(self, alloc: Global, target: &[Text]) -> Result<Entry, AllocError>
-        ensures { IfOk result
-            (λ made. whole_entry made ≡ handed target.now (whole_entry self)) }
-    {
-        match self {
-            Entry::Own(OwnEntry::SetAlias { name, alias }) => {
-                let alias = alias.straightened(alloc, target)?;
-                Ok(Entry::Own(OwnEntry::SetAlias { name, alias }))
-            }
-            other => Ok(other),
-        }
-    }
+    ghost use Rattle.tcl_run.specs.Entering.{whole_entry};
 
     /// What an alias asks its target for: that it call a command of the alias' own words and those
     /// of the call behind them. Nothing is read again.

@@ -193,6 +193,7 @@ pub trait Outside {
         entry: &Entry,
     ) -> Result<Turn, Interruption>
         requires asked { IsAsked up (whole_entry entry.now) }
+        requires held { (p : Path) × (d : ℕ) × Holds tree.now caller p d }
         ensures comes { (p : Path) (d : ℕ) → Holds tree.now caller p d → rise_to up p ≡ None →
             ComesNext goes hands_in (tree_of tree.now) self.old p d up (whole_entry entry.now)
             self.new result }

@@ -4,7 +4,8 @@ use Rattle.std.specs.Prelude.{◌≡◌, ◌⊎◌, ℕ, ◌+◌, Bool, true, fa
 use Rattle.std.specs.Prelude.{Result, Ok, Err, IfErr, IfNone, IfOk, IfSome, IsErrOf}
 use Rattle.tcl_client.specs.Clients.{IsOver, Serves}
 use Rattle.tcl_client.specs.Views.{ClientView}
-use Rattle.tcl_core.specs.Endings.{Meter}
+use Rattle.tcl_core.specs.Endings.{Kind}
+use Rattle.tcl_core.specs.Endings.Kind.{Full, Gone}
 use Rattle.tcl_core.specs.Endings.Meter.{Count, Depth}
 use Rattle.tcl_core.specs.Lives.{End}
 use Rattle.tcl_core.specs.Lives.End.{Completed_as, Stopped, Exits}
@@ -78,9 +79,10 @@ pub record Comes (s : ServedTree) (both : Both) (t : ServedTree) (d : ClientView
 
 -- ## What is said of it
 
-abbrev pub kind_of : Meter → StopKind
-kind_of Count = stop.Count
-kind_of Depth = stop.Depth
+abbrev pub kind_of : Kind → StopKind
+kind_of (Full Count) = stop.Count
+kind_of (Full Depth) = stop.Depth
+kind_of Gone = stop.Gone
 
 -- how a run ended that the client cut off, or didn't
 abbrev pub ended_as : Bool → Option End → Ended

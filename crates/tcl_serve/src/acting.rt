@@ -148,7 +148,7 @@ pub(crate) fn set_client_alias(
     let path = alias.path.as_slice();
     let made = client_alias(alloc, path, alias.words.as_slice())?;
     let name = alias.name.clone()?;
-    match tree.set_alias(path, name, made) {
+    match tree.set_alias(alloc, path, name, &made) {
         Ok(()) => Ok(Answer::Done),
         Err(error) => Err(refused_for(alloc, error, path, &alias.name)),
     }

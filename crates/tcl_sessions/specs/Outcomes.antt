@@ -32,10 +32,11 @@ replay_number (played.Exited n) = pos 3
 replay_number played.Ended = pos 4
 replay_number played.Misfit = pos 5
 
--- the texts of limits
+-- the texts of stops
 abbrev pub stop_text : StopKind → Text
 stop_text stop.Count = codes "command count limit exceeded"
 stop_text stop.Depth = codes "too many nested evaluations (infinite loop?)"
+stop_text stop.Gone = codes "interpreter was deleted"
 
 -- before any evaluation: an empty result
 abbrev pub nothing_yet : Report

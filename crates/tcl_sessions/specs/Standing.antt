@@ -10,8 +10,8 @@ use Rattle.tcl_core.specs.Entries.Answer.{Replied, Heard}
 use Rattle.tcl_core.specs.Entries.Entry.{AskHost, CallWords}
 use Rattle.tcl_core.specs.Paths.{Height, Path, Place, Text}
 use Rattle.tcl_core.specs.Programs.{Wait}
-use Rattle.tcl_core.specs.Runs.{is_own}
-use Rattle.tcl_core.specs.Trees.{What}
+use Rattle.tcl_core.specs.Runs.{gone, is_own}
+use Rattle.tcl_core.specs.Trees.{Tree, What}
 use Rattle.tcl_core.specs.Trees.What.{Back}
 use Rattle.tcl_flow.specs.View.{completion_of}
 use Rattle.tcl_host.specs.MemoryHost.{respond}
@@ -20,7 +20,7 @@ use Rattle.tcl_host.specs.declared.reply.HostReply.{HostReply}
 use Rattle.tcl_host.specs.declared.request.Request.{Request}
 use Rattle.tcl_run.specs.Ends.{Interrupts}
 use Rattle.tcl_run.specs.Entering.{request_of}
-use Rattle.tcl_run.specs.Outsides.{Going, reply_of, unrefused}
+use Rattle.tcl_run.specs.Outsides.{Going, reply_of, told_to, unrefused}
 use Rattle.tcl_run.specs.declared.interruption.Interruption.{Interruption}
 use Rattle.tcl_run.specs.declared.outside.Turn.{Turn}
 use Rattle.tcl_run.specs.declared.outside.Turn.TheVariants as turn
@@ -84,16 +84,18 @@ pub data ComesBack (o : Standing) (p : Path) (h : Height) (i : Entry) (a : core.
   waits : (n : ℕ) → IsFresh o → h ≡ Some n → a ≡ Replied (Cut Above) → Waits o p i z →
       ComesBack o p h i a z
 
--- an answer comes back; nothing else comes to an open call
-abbrev pub answered : Standing → Path → Height → Entry → What Own → Standing → Type 0
-answered o p h i (Back k a) z = ComesBack o p h i a z
-answered o p h i x z = Prim.⊥
+-- An answer comes back, of which a caller that is gone is told what it may be; nothing else comes to
+-- an open call.
+abbrev pub answered : Tree Own → Standing → Path → Wait → What Own → Standing → Type 0
+answered T o p (Some (h, i, d)) (Back k a) z = (b : core.Answer) ×
+    (a ≡ told_to (gone d T p) b) × ComesBack o p h i b z
+answered T o p s x z = Prim.⊥
 
 -- It goes from one state to the next by what comes back from it, and by nothing else. It refuses no
 -- step.
 abbrev pub goes : Going Standing
 goes T o None ev z = unrefused ev.what (z ≡ o)
-goes T o (Some (h, i)) ev z = answered o ev.place h i ev.what z
+goes T o (Some s) ev z = answered T o ev.place (Some s) ev.what z
 
 -- ## Its steps
 
@@ -108,6 +110,7 @@ abbrev pub AnswersAgain : Height → Entry → Answer → Result Turn Interrupti
 AnswersAgain h i a (Ok (turn.Heard reply)) = (answer_of a ≡ Heard (reply_of reply)) ×
     (is_own h i (Heard (reply_of reply)) ≡ true)
 AnswersAgain h i a (Ok (turn.Completed text)) = Prim.⊥
+AnswersAgain h i a (Ok turn.Nobody) = Prim.⊥
 AnswersAgain h i a (Ok (turn.Entry target entry)) = Prim.⊥
 AnswersAgain h i a (Err e) = Interrupts e
     (λ r. (answer_of a ≡ Replied r) × (is_own h i (Replied r) ≡ true))

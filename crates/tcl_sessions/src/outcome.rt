@@ -8,6 +8,7 @@ use crate::standing::OpenCall;
 use std::alloc::{AllocError, Global};
 use tcl_eval::running::End;
 use tcl_flow::completion::Completion;
+use tcl_flow::messages::DELETED;
 use tcl_flow::returning::caught_options;
 use tcl_flow::stop::StopKind;
 use tcl_player::player;
@@ -145,13 +146,14 @@ impl Report {
     }
 }
 
-/// The text of a limit that was met.
+/// The text of a stop.
 fn stop_text(kind: StopKind) -> &'static str
     ensures { result.now ≡ stop_text kind }
 {
     match kind {
         StopKind::Count => COUNT_LIMIT,
         StopKind::Depth => DEPTH_LIMIT,
+        StopKind::Gone => DELETED,
     }
 }
 

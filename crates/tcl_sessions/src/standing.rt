@@ -1,13 +1,15 @@
 //! What stands outside of a tree whose calls may have to wait.
-ghost use Rattle.std.specs.Prelude.{◌≡◌, ◌++◌, ◌∷◌, [], true, None, IfOk, OnErr, OnOk};
+ghost use Rattle.std.specs.Prelude.{◌≡◌, ℕ, ◌++◌, ◌∷◌, [], true, None, IfOk, OnErr, OnOk};
 ghost use Rattle.tcl_core.specs.Entries as core;
-ghost use Rattle.tcl_core.specs.Paths.{Path};
+ghost use Rattle.tcl_core.specs.Paths.{Path, rise_to};
 ghost use Rattle.tcl_host.specs.MemoryHost.{new_host};
 ghost use Rattle.tcl_run.specs.Entering.{whole_entry};
 ghost use Rattle.tcl_run.specs.Outsides.{ComesNext, OnEntry};
 ghost use Rattle.tcl_sessions.specs.Standing.{AnswersAgain, Hears, IsFresh, IsRecalled, Waits};
 ghost use Rattle.tcl_sessions.specs.Standing.{begun_again, goes, words_of};
-ghost use Rattle.tcl_tree.specs.TreeOf.{Names, tree_of};
+ghost use Rattle.tcl_tree.specs.Gone.{Holds, held_of};
+ghost use Rattle.tcl_tree.specs.Held.{StoodAt};
+ghost use Rattle.tcl_tree.specs.TreeOf.{tree_of};
 
 use std::alloc::{AllocError, Global};
 use tcl_flow::completion::Completion;
@@ -174,7 +176,7 @@ impl Standing {
         caller: Place,
         entry: &Entry,
     ) -> Result<(), AllocError>
-        ensures { OnOk result ((p : Path) → Names tree.now caller p →
+        ensures { OnOk result ((p : Path) → StoodAt (held_of tree.now) caller.key p →
             Waits self.old p (whole_entry entry.now) self.new) }
     {
         let path = tree.path_of(alloc, caller)?;
@@ -200,9 +202,9 @@ impl Standing {
         entry: &Entry,
     ) -> Result<Turn, Interruption>
         requires { IsFresh self.old }
-        ensures comes { (p : Path) → Names tree.now caller p → ComesNext goes Prim.⊥
-            (tree_of tree.now)
-            self.old p up (whole_entry entry.now) self.new result }
+        ensures comes { (p : Path) (d : ℕ) → Holds tree.now caller p d → rise_to up p ≡ None →
+            ComesNext goes Prim.⊥ (tree_of tree.now) self.old p d up (whole_entry entry.now)
+            self.new result }
         ensures no_entry { OnEntry result Prim.⊥ }
     {
         match (up, entry) {

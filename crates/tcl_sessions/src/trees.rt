@@ -116,7 +116,7 @@ impl Session {
     {
         self.at_rest()?;
         let alias = leading_out(alloc, path, words)?;
-        Ok(self.tree.set_alias(path, name, alias)?)
+        Ok(self.tree.set_alias(alloc, path, name, &alias)?)
     }
 
     /// Takes an alias of the interpreter at the path away.

@@ -15,10 +15,11 @@ use Rattle.tcl_shell.specs.declared.ending.Ending.TheVariants.{Finished, Helped,
 use Rattle.tcl_shell.specs.declared.ending.Ending.TheVariants.{Unreadable, Stopped, Exited}
 use Rattle.tcl_shell.specs.declared.ending.Ending.TheVariants.{OutOfMemory}
 
--- the text of a limit
+-- the text of a stop
 abbrev pub limit_text : StopKind → List ℕ
 limit_text kind.Count = messages.count_limit
 limit_text kind.Depth = messages.depth_limit
+limit_text kind.Gone = codes "interpreter was deleted"
 
 -- a line of the program's own
 abbrev pub complaint : List ℕ → List ℕ

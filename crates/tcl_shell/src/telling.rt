@@ -6,6 +6,7 @@ ghost use Rattle.tcl_shell.specs.Telling.{limit_text};
 
 use crate::ending::Ending;
 use std::alloc::{AllocError, Global};
+use tcl_flow::messages::DELETED;
 use tcl_flow::stop::StopKind;
 use tcl_host::host::Host;
 use tcl_host::reply::HostError;
@@ -106,12 +107,13 @@ fn put<H: Host>(host: &mut H, text: &str, status: u8) -> u8
     status
 }
 
-/// The text of a limit that was met.
+/// The text of a stop.
 fn limit_text(kind: StopKind) -> &'static str
     ensures { result.now ≡ limit_text kind }
 {
     match kind {
         StopKind::Count => COUNT_LIMIT,
         StopKind::Depth => DEPTH_LIMIT,
+        StopKind::Gone => DELETED,
     }
 }

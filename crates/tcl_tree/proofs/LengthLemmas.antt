@@ -1,9 +1,11 @@
 -- How long the paths of a table are.
-use Rattle.std.proofs.Common.{◌≡◌, ℕ, ◌+◌, ◌≤◌, [], ◌∷◌, length, Option, Some, None, refl, ap, arith}
+use Rattle.std.proofs.Common.{◌≡◌, ℕ, ◌+◌, ◌≤◌, [], ◌∷◌, length, length-append, Option, Some, None, refl, ap, arith}
 use Rattle.std.specs.Option.{option_and_then}
 use Rattle.slab.specs.Slab.{get}
 use Rattle.tcl_core.specs.Paths.{Path, falls}
 use Rattle.tcl_tree.specs.Nodes.{Heap, IsSound, child_in, follow, level_in}
+use Rattle.tcl_tree.specs.Held.{IsOrdered, StoodAt, held_in}
+use Rattle.tcl_tree.specs.Held.StoodAt.{top, below}
 use Rattle.tcl_tree.specs.TreeOf.{key_of}
 use Rattle.tcl_tree.specs.declared.tree.Tree.{Tree as Table}
 use Rattle.tcl_interpreter.proofs.LastNames.{falls_all}
@@ -33,3 +35,19 @@ short_path t p k e =
 pub whole_path : (t : Table) (p : Path) (k : ℕ) → key_of t p ≡ Some k
     → falls 18446744073709551615 p ≡ p
 whole_path t p k e = falls_all 18446744073709551615 p (short_path t p k e)
+
+-- nor is the path at which one stood that is gone
+stood_short : (h : Heap) (root : ℕ) → IsOrdered h root → (p : Path) (k : ℕ) → StoodAt (held_in h) k p → length p ≤ level_in h k
+stood_short h root o p k (top there none) = omega arith
+stood_short h root o p k (below {j = j} {p = q} n e w) =
+    let l = o.levels k j n e in
+    let m = length-append q (n ∷ []) in
+    let i = stood_short h root o q j w in
+    omega arith
+
+pub whole_stood : (t : Table) (p : Path) (k : ℕ) → StoodAt (held_in (get t.nodes)) k p
+    → falls 18446744073709551615 p ≡ p
+whole_stood t p k w =
+    let a = stood_short (get t.nodes) t.root t.ordered p k w in
+    let b = t.sound.fits k in
+    falls_all 18446744073709551615 p (omega arith)

@@ -1,11 +1,11 @@
 -- Lemmas on who stays in use, through evaluations that begin and end.
 use Rattle.std.proofs.Common.{◌≡◌, ℕ, zero, suc, pred, ◌<◌, ◌≤◌, Bool, true, false, ◌&&◌, [], ◌∷◌, ◌++◌, length, refl, sym, ◌∙◌, ap, subst, inl, inr, arith, Option, Some, None}
-use Rattle.std.specs.Prelude.{◌⊎◌, is_some, nat_le, ◌==◌}
+use Rattle.std.specs.Prelude.{◌⊎◌, is_some, nat_le}
 use Rattle.std.specs.Option.{option_map}
 use Rattle.std.proofs.lemmas.Bool.Decides.{nat_tests}
 use Rattle.slab.specs.Slab.{get}
 use Rattle.tcl_interpreter.specs.Paths.{Text, Path}
-use Rattle.tcl_tree.specs.Held.{Held, Keys, above_at, depth_at, gone_at, Over, IsInnermost, Deepens, deeper, Shallows, shallower, left_by, parted, parted_by, Gains, Stays}
+use Rattle.tcl_tree.specs.Held.{Held, Keys, above_at, depth_at, gone_at, Over, IsInnermost, Deepens, deeper, Shallows, shallower, left_by, Gains, Stays}
 use Rattle.tcl_tree.specs.Held.Over.{here, up}
 use Rattle.std.proofs.Common.{append-nil, append_assoc, length-append}
 use Rattle.std.proofs.lemmas.Option.{same_Some}
@@ -22,7 +22,7 @@ use Rattle.tcl_tree.proofs.CoreLemmas.{tree_gone}
 use Rattle.tcl_tree.proofs.GoneLemmas.{highest_gone}
 use Rattle.tcl_tree.proofs.WayLemmas.{above_stands, deep_there, follow_stood, highest_bound, some_highest, stood_along, stood_follow}
 use Rattle.tcl_tree.proofs.DeletionLemmas.{idle_there}
-use Rattle.tcl_tree.proofs.HeldLemmas.{depth_tree, follow_stands, link-above, same_above, not_gone, over_more, over_same}
+use Rattle.tcl_tree.proofs.HeldLemmas.{depth_tree, follow_stands, follow_there, link-above, same_above, not_gone, over_cases, over_more, over_path, over_same}
 
 pub stays_same : (H H₁ : Keys) → ((k : ℕ) → H₁ k ≡ H k) → Stays H H₁
 stays_same H H₁ same = record {
@@ -57,15 +57,6 @@ stays_gains H H₁ g = record {
     still : (k : ℕ) (x : Option Held) → H k ≡ x → gone_at (H k) ≡ true → gone_at (H₁ k) ≡ true
     still k (Some x) e f = ap gone_at (g.kept k x e) ∙ sym (ap gone_at e) ∙ f
     still k None e f = not_gone (gone_at (H k)) f (ap gone_at e)
-
--- a deletion
-parted_stays : (x : Option Held) → (1 ≤ depth_at x → above_at (parted x) ≡ above_at x) × (depth_at (parted x) ≡ depth_at x) × (1 ≤ depth_at x → gone_at (parted x) ≡ true)
-parted_stays None = (λ l. refl, refl, λ l. absurd (omega arith))
-parted_stays (Some x) = by (x.depth == 0) refl
-  where
-    by : (b : Bool) → (x.depth == 0) ≡ b → (1 ≤ x.depth → above_at (parted_by b x) ≡ x.above) × (depth_at (parted_by b x) ≡ x.depth) × (1 ≤ x.depth → gone_at (parted_by b x) ≡ true)
-    by true e = let z : x.depth ≡ 0 = grind (arith, nat_tests) in (λ l. absurd (omega arith), sym z, λ l. absurd (omega arith))
-    by false e = (λ l. refl, refl, λ l. refl)
 
 -- ## An evaluation within one that began
 
@@ -342,3 +333,24 @@ module _ (t u : Tree) (stays : Stays (held_of t) (held_of u)) where
         by : (b : Bool) → gone_at (held_of u place.key) ≡ b → Names u place p ⊎ ((n : ℕ) × IsGone u place p n)
         by false e = inl (stood_follow (get u.nodes) u.root u.sound u.ordered p place.key (stood_on p place.key named deep) e)
         by true e = let h = some_highest (get u.nodes) u.root u.sound u.ordered place.key e in inr (h.0, gone_there h.0 h.1)
+
+-- An evaluation begins in the interpreter that the place names.
+module _ (s : Tree) (place : Place) (p : Path) (named : Names s place p) where
+  pub over_or_not : (a : ℕ) → Over (held_of s) a place.key ⊎ (Over (held_of s) a place.key → Prim.⊥)
+  over_or_not a = over_cases (get s.nodes) s.root s.ordered a place.key
+
+  pub over_there : (a : ℕ) → Over (held_of s) a place.key → is_some (held_of s a) ≡ true
+  over_there a w =
+      let q = over_path (get s.nodes) s.root s.ordered s.sound a p place.key named w in
+      follow_there (get s.nodes) s.root s.sound s.ordered q.0 a q.2
+
+  module _ (t u : Tree) (keys : (q : Path) → key_of t q ≡ key_of s q) (deep : Deepens (held_of s) place.key (held_of t)) (stays : Stays (held_of t) (held_of u)) where
+    -- it is in progress still, there or in one that is gone
+    pub began_holds : Holds u place p 1
+    began_holds =
+        let d : depth_in t place ≡ suc (depth_at (held_of s place.key)) = ap depth_at (deep.over place.key here) ∙ (deeper_at (held_of s place.key) (over_there place.key here)).1 in
+        stays_held t u stays place p (keys p ∙ named) (omega arith) 1 (omega arith) (omega arith)
+
+    -- and it is the last one that began there
+    pub began_innermost : IsInnermost (held_of u) place.key
+    began_innermost = stays_innermost (held_of s) (held_of t) (held_of u) s.ordered.depths place.key over_there over_or_not deep stays

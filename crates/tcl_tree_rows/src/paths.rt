@@ -5,6 +5,7 @@ use crate::places::{alias_up, at_place, nothing};
 use crate::words::{number_of, place_of, words_of};
 use std::alloc::{AllocError, Global};
 use tcl_text::text::Text;
+use tcl_tree::alias::Alias;
 use tcl_tree::refusal::TreeError;
 use tcl_tree::tree::Tree;
 use tcl_value::value::Value;
@@ -14,6 +15,40 @@ fn nest(tree: &mut Tree, path: &[Text]) -> Result<(), TreeError> {
     match tree.nest(path) {
         Ok(_) => Ok(()),
         Err(refusal) => Err(refusal),
+    }
+}
+
+/// Deletes a child while an evaluation is in progress in the interpreter at a path, and tells how
+/// many levels up the highest is that is gone.
+fn delete_within(
+    tree: &mut Tree,
+    path: &[Text],
+    parent: &[Text],
+    name: &Text,
+) -> Result<Option<usize>, TreeError> {
+    let place = tree.nest(path)?;
+    let deleted = tree.delete(parent, name);
+    let gone = tree.is_gone(place);
+    tree.unnest(place);
+    match deleted {
+        Ok(()) => Ok(gone),
+        Err(refusal) => Err(refusal),
+    }
+}
+
+/// `delete-within PATH PARENT NAME`: the same. It answers `here` where the interpreter stands.
+fn within(
+    tree: &mut Tree,
+    alloc: Global,
+    path: &[Text],
+    parent: &Text,
+    name: &Text,
+) -> Result<Answer, AllocError> {
+    let parent = words_of(alloc, parent.as_str())?;
+    match delete_within(tree, path, &parent, name) {
+        Ok(Some(levels)) => Ok(Answer::Given(format!(in alloc; "{levels} up")?)),
+        Ok(None) => given(alloc, "here"),
+        Err(refusal) => refused(alloc, &refusal),
     }
 }
 
@@ -66,6 +101,20 @@ fn alias_between(
     )
 }
 
+/// Makes a name an alias whose way leads so many levels up, and the names down.
+fn alias_by(
+    tree: &mut Tree,
+    alloc: Global,
+    path: &[Text],
+    name: &Text,
+    up: usize,
+    down: &Text,
+) -> Result<Answer, AllocError> {
+    let down = words_of(alloc, down.as_str())?;
+    let alias = Alias::new(alloc, up, down, Vec::<Value>::new(alloc))?;
+    done(alloc, tree.set_alias(alloc, path, name.clone()?, &alias))
+}
+
 /// What a call of a path, a name and another word answers: `create PATH NAME safe` makes a safe
 /// child, and `alias PATH NAME UP` and `between PATH NAME TARGET` make aliases.
 fn of_three(
@@ -83,7 +132,7 @@ fn of_three(
         ),
         "alias" => {
             let alias = alias_up(alloc, place_of(other))?;
-            done(alloc, tree.set_alias(path, name.clone()?, alias))
+            done(alloc, tree.set_alias(alloc, path, name.clone()?, &alias))
         }
         "rename" => done(alloc, tree.rename(path, name, other.clone()?)),
         "between" => {
@@ -130,7 +179,8 @@ fn at(tree: &mut Tree, alloc: Global, path: &[Text], words: &[Text]) -> Result<A
     }
 }
 
-/// What a call answers of the interpreter at a path.
+/// What a call answers of the interpreter at a path. `alias-by PATH NAME UP DOWN` makes an alias by
+/// its way.
 pub(crate) fn at_path(
     tree: &mut Tree,
     alloc: Global,
@@ -140,6 +190,10 @@ pub(crate) fn at_path(
 ) -> Result<Answer, AllocError> {
     match words {
         _ if call == "at" => at(tree, alloc, path, words),
+        [parent, name] if call == "delete-within" => within(tree, alloc, path, parent, name),
+        [name, up, down] if call == "alias-by" => {
+            alias_by(tree, alloc, path, name, place_of(up), down)
+        }
         [] => of_one(tree, alloc, call, path),
         [down, others @ ..] if matches!(call, "steps" | "levels" | "hide" | "expose") => {
             let down = words_of(alloc, down.as_str())?;

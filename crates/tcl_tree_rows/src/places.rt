@@ -33,16 +33,12 @@ fn nest(tree: &mut Tree, alloc: Global, place: Place) -> Result<Answer, AllocErr
     }
 }
 
-/// What a call of no words answers. `unnest` ends an evaluation.
+/// What a call of no words answers.
 fn of_none(tree: &mut Tree, alloc: Global, place: Place, call: &str) -> Result<Answer, AllocError>
     requires { (p : Path) × Names tree.old place p }
 {
     match call {
         "nest" => nest(tree, alloc, place),
-        "unnest" => {
-            tree.unnest(place);
-            given(alloc, "-")
-        }
         "free-name" => given(alloc, tree.free_name_at(alloc, place)?.as_str()),
         _ => no_call(alloc),
     }

@@ -82,13 +82,16 @@ impl Tree {
         Some(at)
     }
 
-    /// The interpreter's path, from the root downward.
+    /// The interpreter's path, from the root downward; of one that is gone, the path at which it
+    /// stood.
     ///
     /// # Errors
     /// Want of memory.
     pub fn path_of(&self, alloc: Global, place: Place) -> Result<Vec<Text>, AllocError>
-        ensures { IfOk result (λ path. (p : List (List ℕ)) → Names self.now place p →
+        ensures named { IfOk result (λ path. (p : List (List ℕ)) → Names self.now place p →
             path.items ≡ p) }
+        ensures stood { IfOk result (λ path. (p : List (List ℕ)) →
+            StoodAt (held_of self.now) place.key p → path.items ≡ p) }
     {
         let path = self.last_names(alloc, place, usize::MAX)?;
         Ok(path)

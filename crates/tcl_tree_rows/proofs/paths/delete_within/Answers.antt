@@ -1,0 +1,31 @@
+use Rattle.std.proofs.Common.{[], ◌∷◌, ◌++◌, sym, ◌∙◌}
+use Rattle.tcl_tree.proofs.StayLemmas.{began_holds, began_innermost}
+use Rattle.tcl_tree_rows.proofs.Deleting.{deleted_or_not}
+use Rattle.tcl_tree_rows.proofs.paths.delete_within.Goals as goal
+
+pub is_gone-requires : goal.is_gone-requires
+is_gone-requires c =
+    let began = c.in_ok-place.ensures in
+    let p = c.args.path.now in (
+      p,
+      1,
+      began_holds c.args.tree.now c.in_ok-place.place p (sym (began.keys p) ∙ began.place) c.nest.new.self c.delete-deleted.new.self began.keys began.deeper
+          (deleted_or_not c.nest.new.self c.delete-deleted.new.self (c.args.parent.now ++ c.args.name.now ∷ []) c.delete-deleted.result c.delete-deleted.ensures.parts c.delete-deleted.ensures.held),
+    )
+
+pub unnest-requires-clause-holds : goal.unnest-requires-clause-holds
+unnest-requires-clause-holds c =
+    let began = c.in_ok-place.ensures in
+    let p = c.args.path.now in (
+      p,
+      1,
+      began_holds c.args.tree.now c.in_ok-place.place p (sym (began.keys p) ∙ began.place) c.nest.new.self c.delete-deleted.new.self began.keys began.deeper
+          (deleted_or_not c.nest.new.self c.delete-deleted.new.self (c.args.parent.now ++ c.args.name.now ∷ []) c.delete-deleted.result c.delete-deleted.ensures.parts c.delete-deleted.ensures.held),
+    )
+
+pub unnest-requires-clause-innermost : goal.unnest-requires-clause-innermost
+unnest-requires-clause-innermost c =
+    let began = c.in_ok-place.ensures in
+    let p = c.args.path.now in
+    began_innermost c.args.tree.now c.in_ok-place.place p (sym (began.keys p) ∙ began.place) c.nest.new.self c.delete-deleted.new.self began.keys began.deeper
+    (deleted_or_not c.nest.new.self c.delete-deleted.new.self (c.args.parent.now ++ c.args.name.now ∷ []) c.delete-deleted.result c.delete-deleted.ensures.parts c.delete-deleted.ensures.held)
