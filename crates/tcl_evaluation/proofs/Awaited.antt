@@ -1,6 +1,6 @@
 -- What waiting for what stands outside of the tree comes to, and what is handed in meanwhile.
 use Rattle.std.proofs.Common.{◌≡◌, ℕ, ℤ, true, [], Option, Some, None, refl, sym, ◌∙◌, ap, subst}
-use Rattle.std.specs.Prelude.{Result, Ok, Err}
+use Rattle.std.specs.Prelude.{IfErr, Result, Ok, Err}
 use Rattle.std.proofs.lemmas.Option.{same_Some}
 use Rattle.tcl_core.specs.Endings.{Completion, Reply, ok}
 use Rattle.tcl_core.specs.Endings.Kind.{Gone}
@@ -18,6 +18,7 @@ use Rattle.tcl_core.specs.Execution.{event}
 use Rattle.tcl_core.specs.Trees.{Tree, Node, depth_of}
 use Rattle.tcl_core.specs.Trees.What.{Out, In, Done, Back, Unfound}
 use Rattle.tcl_flow.specs.Stopping.{reply_of as stop_reply}
+use Rattle.tcl_host.specs.declared.reply.HostReply.{HostReply as TheirReply}
 use Rattle.tcl_flow.specs.View.{completion_of}
 use Rattle.tcl_language.specs.Instructions.{Program}
 use Rattle.tcl_language.specs.Interpreters.{finished, nobody_at}
@@ -44,7 +45,7 @@ use Rattle.tcl_tree.specs.TreeOf.{tree_of, marks_of, Names}
 use Rattle.tcl_tree.specs.declared.tree.Tree.{Tree as Table}
 use Rattle.tcl_tree.specs.declared.tree.Place.{Place as TablePlace}
 use Rattle.tcl_evaluation.specs.View.{Leads}
-use Rattle.tcl_evaluation.specs.Waiting.{AnswersBy, CallsOut, EndsBefore, EndsEntry, EndsWait, ExitOf, HandsIn, HearsSo, MissesEntry, MissesSo, WaitsOn, Wherever, depth_there, gone_stop, told_end, told_next, waiting}
+use Rattle.tcl_evaluation.specs.Waiting.{AnswersBy, CallsOut, EndsBefore, EndsEntry, EndsWait, ExitOf, HandsIn, HearsSo, IsNoCompletion, MissesEntry, MissesSo, WaitsOn, Wherever, depth_there, gone_stop, told_end, told_next, waiting}
 use Rattle.tcl_evaluation.proofs.Targets.{came}
 
 -- ## How an entry ended
@@ -137,33 +138,30 @@ entry_told ways old new o u z t inner ended runs told =
 still_styled : (was now : Table) (place : TablePlace) (p : Path) (style : Integers) → IsSteady was now → IsAt was place p style → (marks_of now).integers ≡ style
 still_styled was now place p style h at = ap (λ m. m.integers) h.marks ∙ at.style_is
 
--- An entry enters as it is handed in at the path.
-module _ {S : Type 0} (ways : Ways S) (old new : Table) (o u : S) (place : TablePlace) (up : Height) (i : Entry) (t : Path) (there : TablePlace) (named : Names old there t) (inner entered : Entry) (same : entered ≡ inner) (ended : Result Text Interruption)
-    (runs : EndsEntry ways old o t entered new u ended) where
+-- An entry for somebody who stands at the path.
+module _ {S : Type 0} (ways : Ways S) (old new : Table) (o u : S) (place : TablePlace) (up : Height) (i : Entry) (t : Path) (there : TablePlace) (named : Names old there t) (inner : Entry) (ended : Result Text Interruption)
+    (runs : EndsEntry ways old o t inner new u ended) where
   stands_there : (m : Node Own) × (tree_of old t ≡ Some m)
   stands_there = stands (tree_of old t) (tree_there old t _ named)
-
-  runs_as : EndsEntry ways old o t inner new u ended
-  runs_as = subst (λ (x : Entry). EndsEntry ways old o t x new u ended) same runs
 
   -- the program waits on
   pub handed_on : (z : S) (status : Option ℤ) → status ≡ None → IfEnded ended (λ y. ways.goes (tree_of new) u None (event t (Done None y)) z) → ExitOf ended status → WaitsOn ways old o place up i t inner new z
   handed_on z status none told stays =
-      let y = unexited ended (EntryTold ways old o t inner new u z) (subst (λ (x : Option ℤ). ExitOf ended x) none stays) (entry_told ways old new o u z t inner ended runs_as told) in
+      let y = unexited ended (EntryTold ways old o t inner new u z) (subst (λ (x : Option ℤ). ExitOf ended x) none stays) (entry_told ways old new o u z t inner ended runs told) in
       λ before enters was p style at steady e k. hands_on ways style up i (depth_there was p) t inner y.0 e stands_there.1 enters (y.1.0 style (still_styled was old place p style steady at)) y.1.1 y.2 k
 
   -- it ends by an exit
   pub handed_out : (v z : S) (n : ℤ) (status : Option ℤ) → status ≡ Some n → IfEnded ended (λ y. ways.goes (tree_of new) u None (event t (Done None y)) v) → ExitOf ended status →
       ((p : Path) (d : ℕ) → Holds new place p d → rise_to up p ≡ None → ways.goes (tree_of new) v (Some (up, i, d)) (event p (Back up (Replied (Exit n)))) z) → IsSteady old new → EndsBefore ways old o place up i t inner new z (Some (Exit n))
   handed_out v z n status some told out back steady =
-      let y = exited ended n (EntryTold ways old o t inner new u v) (subst (λ (x : Option ℤ). ExitOf ended x) some out) (entry_told ways old new o u v t inner ended runs_as told) in
+      let y = exited ended n (EntryTold ways old o t inner new u v) (subst (λ (x : Option ℤ). ExitOf ended x) some out) (entry_told ways old new o u v t inner ended runs told) in
       λ before loses enters was p style at since e k. hands_out ways style up i (depth_there was p) t inner n e stands_there.1 enters (y.0 style (still_styled was old place p style since at)) y.1
       (back p (depth_there was p) (steady_holds was new place p (steady-trans was old new since steady) at.names at.running) e) k
 
   -- it is given up with what it was, or the outside could not be told of its end
   pub handed_lost : (z : S) → IsLoss ways.loses u z → EndsBefore ways old o place up i t inner new z None
   handed_lost z loses =
-      let y = came ended (EntryRan ways old o t inner new u) runs_as in
+      let y = came ended (EntryRan ways old o t inner new u) runs in
       λ before lost enters was p style at since e k. enters_lost t inner e stands_there.1 enters (y.1 style (still_styled was old place p style since at)) loses
 
   pub handed_over : (z : S) (result : Result (Unit {0}) Interruption) (y : Interruption) → result ≡ Err y → y ≡ interruption.Memory → IsLoss ways.loses u z → HandsIn ways old o place up i t inner new z result
@@ -180,17 +178,21 @@ module _ {S : Type 0} (ways : Ways S) (old : Table) (o : S) (place : TablePlace)
   handed_to_nobody z none misses = λ before enters was p style at since e k V w r s. finds_nobody t inner e none (misses before enters) s
 
 -- the same at an equal path
-pub handed_at : {S : Type 0} (ways : Ways S) (old new : Table) (o z : S) (place : TablePlace) (up : Height) (i : Entry) (t u : Path) (f : Path → Entry) (result : Result (Unit {0}) Interruption) → t ≡ u → HandsIn ways old o place up i t (f t) new z result → HandsIn ways old o place up i u (f u) new z result
-handed_at ways old new o z place up i t u f result same h = subst (λ (x : Path). HandsIn ways old o place up i x (f x) new z result) same h
+pub handed_at : {S : Type 0} (ways : Ways S) (old new : Table) (o z : S) (place : TablePlace) (up : Height) (i : Entry) (t u : Path) (inner : Entry) (result : Result (Unit {0}) Interruption) → t ≡ u → HandsIn ways old o place up i t inner new z result → HandsIn ways old o place up i u inner new z result
+handed_at ways old new o z place up i t u inner result same h = subst (λ (x : Path). HandsIn ways old o place up i x inner new z result) same h
 
 -- it is told that it finds nobody
-pub missed_so : {S : Type 0} (ways : Ways S) (hands_in : Type 0) (old : Table) (o z : S) (t : Path) (k : Entry) (i : Interruption) (c : Completion) → Says i (λ r. r ≡ Completed c) → hands_in → (hands_in → Interrupts i (λ r. WasUnfound ways.goes (tree_of old) o t k r z)) →
+pub missed_so : {S : Type 0} (ways : Ways S) (hands_in : Type 0) (old : Table) (o z : S) (t : Path) (k : Entry) (i : Interruption) (c : Completion) → Says i (λ r. r ≡ Completed c) → tree_of old t ≡ None → hands_in → (hands_in → Interrupts i (λ r. WasUnfound ways.goes (tree_of old) o t k r z)) →
     (before : S) → ways.goes (tree_of old) before None (event t (In None k)) o → ways.goes (tree_of old) before None (event [] (Unfound t k c)) z
-missed_so ways hands_in old o z t k interruption.Memory c says hands told before enters = elim says [ ]
-missed_so ways hands_in old o z t k (interruption.Completed x) c says hands told before enters = told hands c before says enters
-missed_so ways hands_in old o z t k (interruption.Stopped x) c says hands told before enters = told hands c before says enters
-missed_so ways hands_in old o z t k (interruption.Exited x) c says hands told before enters = told hands c before says enters
-missed_so ways hands_in old o z t k (interruption.Cut x) c says hands told before enters = told hands c before says enters
+missed_so ways hands_in old o z t k interruption.Memory c says none hands told before enters = elim says [ ]
+missed_so ways hands_in old o z t k (interruption.Completed x) c says none hands told before enters = told hands c before says none enters
+missed_so ways hands_in old o z t k (interruption.Stopped x) c says none hands told before enters = told hands c before says none enters
+missed_so ways hands_in old o z t k (interruption.Exited x) c says none hands told before enters = told hands c before says none enters
+missed_so ways hands_in old o z t k (interruption.Cut x) c says none hands told before enters = told hands c before says none enters
+
+-- want of memory is no completion
+pub memory_quits : {A : Type 0} (r : Result A Interruption) (y : Interruption) → r ≡ Err y → y ≡ interruption.Memory → IfErr r IsNoCompletion
+memory_quits r y is memory = subst (λ (x : Result _ Interruption). IfErr x IsNoCompletion) (sym (is ∙ ap Err memory)) tt
 
 -- ## Entries from outside of the tree
 
@@ -325,7 +327,7 @@ module _ {S : Type 0} (ways : Ways S) (hands_in : Type 0) (old now : Table) (o b
       let holds = steady_holds old now place p steady at.names at.running in
       comes_told ways hands_in (tree_of now) b z p (depth_there old p) up i next told (as_told p (depth_there old p) holds) (comes p (depth_there old p) holds (above p at.names))
 
-  told_as : (x : Result Turn Interruption) → told ≡ x → (p : Path) (style : Integers) → IsAt old place p style → ComesTold ways hands_in (tree_of now) b p (depth_there old p) up i z x
+  pub told_as : (x : Result Turn Interruption) → told ≡ x → (p : Path) (style : Integers) → IsAt old place p style → ComesTold ways hands_in (tree_of now) b p (depth_there old p) up i z x
   told_as x is p style at = subst (ComesTold ways hands_in (tree_of now) b p (depth_there old p) up i z) is (told_there p style at)
 
   -- it completed
@@ -334,7 +336,7 @@ module _ {S : Type 0} (ways : Ways S) (hands_in : Type 0) (old now : Table) (o b
       (answers_by ways style (tree_of now) (depth_there old p) up i (Completed (ok text)) (above p at.names) (told_as (Ok (turn.Completed text)) is p style at))
 
   -- a host replied
-  pub hears_wait : (reply : _) → told ≡ Ok (turn.Heard reply) → Wherever old place (λ p style. HearsSo ways style (tree_of old) o p up i (depth_there old p) (tree_of now) z (host_reply reply))
+  pub hears_wait : (reply : TheirReply) → told ≡ Ok (turn.Heard reply) → Wherever old place (λ p style. HearsSo ways style (tree_of old) o p up i (depth_there old p) (tree_of now) z (host_reply reply))
   hears_wait reply is = λ p style at k V w r t. leads p style at k V w r
       (hears_so ways style (depth_there old p) up i (host_reply reply) (above p at.names) (told_as (Ok (turn.Heard reply)) is p style at) k V w r t)
 
@@ -364,10 +366,6 @@ module _ {S : Type 0} (ways : Ways S) (hands_in : Type 0) (old now : Table) (o b
       let at : IsAt old place p (marks_of old).integers = record { names = running.1; style_is = refl; running = running.2 } in
       let g = none (gone (depth_there old p) (tree_of now) p) (subst (StandsTold (gone (depth_there old p) (tree_of now) p)) is (stands_told (gone (depth_there old p) (tree_of now) p) next told (as_told p (depth_there old p) (steady_holds old now place p steady running.1 running.2)))) in
       subst (λ (h : Option ℕ). is_told h up i a ≡ true) g (of p (told_as x is p (marks_of old).integers at))
-
-  -- an entry was handed in
-  pub entry_in : (target : _) (inner : _) → told ≡ Ok (turn.Entry target inner) → (p : Path) (style : Integers) → IsAt old place p style → ComesNext ways.goes hands_in (tree_of now) b p (depth_there old p) up i z (Ok (turn.Entry target inner))
-  entry_in target inner is p style at = told_as (Ok (turn.Entry target inner)) is p style at
 
 -- after an entry it waits on
 pub waits_on : {S : Type 0} (ways : Ways S) (old now new : Table) (o b m z : S) (place : TablePlace) (up : Height) (i : Entry) (target : Path) (inner : Entry) →

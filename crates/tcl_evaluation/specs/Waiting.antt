@@ -19,7 +19,7 @@ use Rattle.tcl_language.specs.Instructions.{Program}
 use Rattle.tcl_language.specs.Interpreters.{finished, nobody_at}
 use Rattle.tcl_language.specs.Table.{serve}
 use Rattle.tcl_language_laws.specs.Language.{language}
-use Rattle.tcl_run.specs.Ends.{Breaks, IfEnded, IfRan}
+use Rattle.tcl_run.specs.Ends.{Breaks, Completes, IfEnded, IfRan}
 use Rattle.tcl_run.specs.Outsides.{Going, Misses, reply_of}
 use Rattle.tcl_run.specs.Runs.{IsAt, IsSteady, Proceeds, Ways}
 use Rattle.tcl_run.specs.declared.interruption.Interruption.{Interruption}
@@ -192,6 +192,10 @@ abbrev pub HandsIn : {S : Type 0} → Ways S → table.Tree → S → table_plac
 HandsIn ways old o place up i target inner new z result =
     MatchResult result (λ x. WaitsOn ways old o place up i target inner new z)
     (λ e. Breaks e (EndsBefore ways old o place up i target inner new z))
+
+-- it ended otherwise than by a completion
+abbrev pub IsNoCompletion : Interruption → Type 0
+IsNoCompletion i = Completes i Prim.⊥
 
 -- the status of an exit, where it was one
 abbrev pub ExitOf : Result Text Interruption → Option ℤ → Type 0

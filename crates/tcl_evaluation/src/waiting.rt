@@ -1,19 +1,19 @@
 //! Waiting for what stands outside of the tree, and what it hands in meanwhile.
-ghost use Rattle.std.specs.Prelude.{◌≡◌, ◌≤◌, ℕ, None, Some, Ok, IfOk, OnOk};
+ghost use Rattle.std.specs.Prelude.{◌≡◌, ◌≤◌, ℕ, None, Some, Ok, IfErr, IfOk, OnOk};
 ghost use Rattle.tcl_core.specs.Endings.Reply.{Completed};
 ghost use Rattle.tcl_core.specs.Paths.{Path, rise_to};
 ghost use Rattle.tcl_core.specs.Runs.{gone};
 ghost use Rattle.tcl_flow.specs.declared.stop.StopKind.TheVariants.{Gone};
 ghost use Rattle.tcl_language.specs.Interpreters as interpreters;
 ghost use Rattle.tcl_run.specs.Ends.{OnCompletion, Says};
-ghost use Rattle.tcl_run.specs.Entering.{handed, whole_entry};
+ghost use Rattle.tcl_run.specs.Entering.{whole_entry};
 ghost use Rattle.tcl_run.specs.Outsides.{IsAsked};
 ghost use Rattle.tcl_run.specs.Runs.{IsHere, IsLoss, IsRunning, Keeps, ways};
 ghost use Rattle.tcl_run.specs.declared.interruption.Interruption.TheVariants.{Stopped};
 ghost use Rattle.tcl_tree.specs.Gone.{Holds};
 ghost use Rattle.tcl_tree.specs.TreeOf.{tree_of, Names};
-ghost use Rattle.tcl_evaluation.specs.Waiting.{EndsEntry, ExitOf, HandsIn, IsAnswer, Waits};
-ghost use Rattle.tcl_evaluation.specs.Waiting.{MissesEntry, told_next};
+ghost use Rattle.tcl_evaluation.specs.Waiting.{EndsEntry, ExitOf, HandsIn, IsAnswer};
+ghost use Rattle.tcl_evaluation.specs.Waiting.{IsNoCompletion, MissesEntry, Waits, told_next};
 
 use crate::crossing::serve_entry;
 use std::alloc::{AllocError, Global};
@@ -144,13 +144,17 @@ fn hand_in<O: Outside>(
     requires handed { O.hands_in }
     ensures runs { HandsIn (ways O.goes O.loses) tree.old outside.old place up
         (whole_entry entry.now)
-        target.items (handed target.items (whole_entry inner)) tree.new outside.new result }
+        target.items (whole_entry inner) tree.new outside.new result }
+    ensures quits { IfErr result IsNoCompletion }
     ensures keeps { Keeps O.entries_left tree.old tree.new outside.old outside.new }
 {
     let path = target.as_slice();
     match tree.place(path) {
         Some(there) => hand_to(tree, alloc, outside, place, up, entry, path, there, inner),
-        None => Ok(miss_entry(tree, alloc, outside, path, &inner)?),
+        None => {
+            miss_entry(tree, alloc, outside, path, &inner)?;
+            Ok(())
+        }
     }
 }
 
@@ -176,10 +180,10 @@ fn hand_to<O: Outside>(
     requires there { Names tree.old there path.now }
     ensures runs { HandsIn (ways O.goes O.loses) tree.old outside.old place up
         (whole_entry entry.now)
-        path.now (handed path.now (whole_entry inner)) tree.new outside.new result }
+        path.now (whole_entry inner) tree.new outside.new result }
+    ensures quits { IfErr result IsNoCompletion }
     ensures keeps { Keeps O.entries_left tree.old tree.new outside.old outside.new }
 {
-    let inner = inner.handed(alloc, path)?;
     let ended = enter(tree, alloc, outside, path, there, inner);
     let done = Happening::EntryDone {
         target: path,
@@ -218,7 +222,7 @@ fn nobody_told(alloc: Global, path: &[Text]) -> Result<Interruption, AllocError>
 /// Want of memory.
 #[inline(never)]
 #[tactic(auto, using(tcl_run::proofs::Losing::losing))]
-fn miss_entry<O: Outside>(
+pub fn miss_entry<O: Outside>(
     tree: &Tree,
     alloc: Global,
     outside: &mut O,
@@ -226,8 +230,9 @@ fn miss_entry<O: Outside>(
     inner: &Entry,
 ) -> Result<(), AllocError>
     requires handed { O.hands_in }
+    requires missing { tree_of tree.now path.now ≡ None }
     ensures misses { OnOk result (MissesEntry O.goes tree.now outside.old path.now
-        (handed path.now (whole_entry inner.now)) outside.new) }
+        (whole_entry inner.now) outside.new) }
     ensures lost { IsLoss O.loses outside.old outside.new }
     ensures left { O.entries_left outside.new ≤ O.entries_left outside.old }
 {
