@@ -3,7 +3,6 @@ use Rattle.std.proofs.Common.{◌≡◌, ℕ, ℤ, true, [], Option, Some, None,
 use Rattle.std.specs.Prelude.{IfErr, Result, Ok, Err}
 use Rattle.std.proofs.lemmas.Option.{same_Some}
 use Rattle.tcl_core.specs.Endings.{Completion, Reply, ok}
-use Rattle.tcl_core.specs.Endings.Kind.{Gone}
 use Rattle.tcl_core.specs.Endings.Reply.{Completed, Stop, Exit, Cut}
 use Rattle.tcl_core.specs.Entries.{Answer, Entry, HostReply}
 use Rattle.tcl_core.specs.Entries as core
@@ -33,7 +32,7 @@ use Rattle.tcl_run.specs.declared.interruption.Interruption.{Interruption}
 use Rattle.tcl_run.specs.declared.interruption.Interruption.TheVariants as interruption
 use Rattle.tcl_run.specs.declared.outside.Turn.{Turn}
 use Rattle.tcl_run.specs.declared.outside.Turn.TheVariants as turn
-use Rattle.tcl_run.proofs.Endings.{Breaks-more, Completes-more, IfEnded-both, IfRan-more, Interrupts-more, ended_so, memory_err, breaks, ran_err}
+use Rattle.tcl_run.proofs.Endings.{Breaks-more, Completes-all, IfEnded-both, IfRan-more, Interrupts-more, ended_so, memory_err, breaks, ran_err}
 use Rattle.tcl_run.proofs.Losing.{lost_once, lost_twice}
 use Rattle.tcl_run.proofs.Proceeding.{answers_here, answers_on, answers_passed, at_prog, at_reply, calls_out, completed, enters_exiting, enters_lost, enters_on, finds_nobody, hears_on, misses_on, stopped, stopped_by}
 use Rattle.tcl_run.proofs.Steady.{called_here, holds_named, same_path, stands, steady-trans, steady_holds}
@@ -221,19 +220,12 @@ StandsTold g (Err e) = Completes e (g ≡ None)
 pub stands_told : (g : Option ℕ) (next told : Result Turn Interruption) → told ≡ told_next g next → StandsTold g told
 stands_told g next told same = subst (StandsTold g) (sym same) (by g next)
   where
-    all : (i : Interruption) → Completes i (None {A = ℕ} ≡ None)
-    all interruption.Memory = tt
-    all (interruption.Completed c) = refl
-    all (interruption.Stopped s) = tt
-    all (interruption.Exited n) = tt
-    all (interruption.Cut c) = tt
-
     by : (g : Option ℕ) (next : Result Turn Interruption) → StandsTold g (told_next g next)
     by None (Ok (turn.Entry target inner)) = tt
     by None (Ok (turn.Completed text)) = refl
     by None (Ok (turn.Heard reply)) = refl
     by None (Ok turn.Nobody) = refl
-    by None (Err i) = all i
+    by None (Err i) = Completes-all i (◌≡◌ {A = Option ℕ} None None) refl
     by (Some n) (Ok (turn.Entry target inner)) = tt
     by (Some n) (Ok (turn.Completed text)) = tt
     by (Some n) (Ok (turn.Heard reply)) = tt

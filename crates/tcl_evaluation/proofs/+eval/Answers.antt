@@ -3418,3 +3418,24 @@ pub waiting::wait-returns-in_err-hand_in-in-Entry-clause-here : goal.waiting::wa
 waiting::wait-returns-in_err-hand_in-in-Entry-clause-here g t c =
     let p = err_from_is_err_and c.from_residual-in_err-hand_in-in-Entry.result c.from_residual-in_err-hand_in-in-Entry.ensures.1 in
     completes_err c.from_residual-in_err-hand_in-in-Entry.result c.in_err-hand_in-in-Entry.field-0.0 p.0 Prim.⊥ (IsHere c.args.tree.now c.hand_in.new.tree c.args.place) p.1 p.2 c.in_err-hand_in-in-Entry.ensures.quits (λ h. absurd h)
+
+pub waiting::hand_in-returns-in_err-miss_entry-in-None-clause-keeps : goal.waiting::hand_in-returns-in_err-miss_entry-in-None-clause-keeps
+waiting::hand_in-returns-in_err-miss_entry-in-None-clause-keeps g t c = told_keeps c.miss_entry.ensures.left
+
+pub waiting::hand_in-returns-in_ok-miss_entry-in-None-clause-keeps : goal.waiting::hand_in-returns-in_ok-miss_entry-in-None-clause-keeps
+waiting::hand_in-returns-in_ok-miss_entry-in-None-clause-keeps g t c = told_keeps c.miss_entry.ensures.left
+
+pub crossing::call_there-returns-in_err-notify-clause-keeps : goal.crossing::call_there-returns-in_err-notify-clause-keeps
+crossing::call_there-returns-in_err-notify-clause-keeps g t c = told_keeps c.notify.ensures.left
+
+pub crossing::call_past_top-returns-in_err-notify-clause-keeps : goal.crossing::call_past_top-returns-in_err-notify-clause-keeps
+crossing::call_past_top-returns-in_err-notify-clause-keeps g t c = told_keeps c.notify.ensures.left
+
+pub hosting::ask-returns-in_err-notify-clause-keeps : goal.hosting::ask-returns-in_err-notify-clause-keeps
+hosting::ask-returns-in_err-notify-clause-keeps g t c = told_keeps c.notify.ensures.left
+
+pub crossing::call_alias-returns-in-Missing-clause-keeps : goal.crossing::call_alias-returns-in-Missing-clause-keeps
+crossing::call_alias-returns-in-Missing-clause-keeps g t c = told_keeps c.miss_alias.ensures.left
+
+pub crossing::ask_below-returns-in-Missing-clause-keeps : goal.crossing::ask_below-returns-in-Missing-clause-keeps
+crossing::ask_below-returns-in-Missing-clause-keeps g t c = told_keeps c.find_nobody.ensures.left
