@@ -2524,7 +2524,7 @@ pub crossing::serve_entry-returns-clause-runs : goal.crossing::serve_entry-retur
 crossing::serve_entry-returns-clause-runs g t c =
     breaks c.denied.result (λ e. e ≡ Completed (failing denied)) _ (λ e h p style at. at_prog (ap (λ i. serve style (whole_entry i)) c.in-AskHost.is) (at_reply h completed)) (λ p style at. stopped) c.denied.ensures
 
--- # Calls that pass the top of the tree, and what is handed in
+-- # Where evaluations came to completions
 
 pub evaluation::eval_script-returns-clause-here : goal.evaluation::eval_script-returns-clause-here
 evaluation::eval_script-returns-clause-here g t c =
