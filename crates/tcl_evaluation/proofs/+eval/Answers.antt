@@ -3222,6 +3222,87 @@ crossing::call_alias-returns-in-Missing-clause-here g t c = unmoved c.miss_alias
 pub crossing::ask_below-returns-in-Missing-clause-here : goal.crossing::ask_below-returns-in-Missing-clause-here
 crossing::ask_below-returns-in-Missing-clause-here g t c = unmoved c.find_nobody.result c.args.tree.now c.args.place
 
+pub commands::call_procedure-returns-in_default-clause-here : goal.commands::call_procedure-returns-in_default-clause-here
+commands::call_procedure-returns-in_default-clause-here g t c = Completes-all c.wrong_form.result (IsHere c.args.tree.now c.args.tree.now c.args.place) (here-refl c.args.tree.now c.args.place)
+
+pub control::catch-returns-in_default-clause-here : goal.control::catch-returns-in_default-clause-here
+control::catch-returns-in_default-clause-here g t c = Completes-all c.wrong_args.result (IsHere c.args.tree.now c.args.tree.now c.args.place) (here-refl c.args.tree.now c.args.place)
+
+pub control::catch-returns-then-names-gt2-clause-here : goal.control::catch-returns-then-names-gt2-clause-here
+control::catch-returns-then-names-gt2-clause-here g t c = Completes-all c.wrong_args-then-names-gt2.result (IsHere c.args.tree.now c.args.tree.now c.args.place) (here-refl c.args.tree.now c.args.place)
+
+pub control::eval-returns-then-is_empty-clause-here : goal.control::eval-returns-then-is_empty-clause-here
+control::eval-returns-then-is_empty-clause-here g t c = Completes-all c.wrong_args.result (IsHere c.args.tree.now c.args.tree.now c.args.place) (here-refl c.args.tree.now c.args.place)
+
+pub expressions::expr-returns-then-is_empty-clause-here : goal.expressions::expr-returns-then-is_empty-clause-here
+expressions::expr-returns-then-is_empty-clause-here g t c = Completes-all c.wrong_args.result (IsHere c.args.tree.now c.args.tree.now c.args.place) (here-refl c.args.tree.now c.args.place)
+
+pub expressions::if_first-returns-in_default-clause-here : goal.expressions::if_first-returns-in_default-clause-here
+expressions::if_first-returns-in_default-clause-here g t c = Completes-all c.wrong_args.result (IsHere c.args.tree.now c.args.tree.now c.args.place) (here-refl c.args.tree.now c.args.place)
+
+pub expressions::while_loop-returns-in_default-clause-here : goal.expressions::while_loop-returns-in_default-clause-here
+expressions::while_loop-returns-in_default-clause-here g t c = Completes-all c.wrong_args.result (IsHere c.args.tree.now c.args.tree.now c.args.place) (here-refl c.args.tree.now c.args.place)
+
+pub expressions::for_loop-returns-in_default-clause-here : goal.expressions::for_loop-returns-in_default-clause-here
+expressions::for_loop-returns-in_default-clause-here g t c = Completes-all c.wrong_args.result (IsHere c.args.tree.now c.args.tree.now c.args.place) (here-refl c.args.tree.now c.args.place)
+
+pub loops::foreach-returns-in_default-clause-here : goal.loops::foreach-returns-in_default-clause-here
+loops::foreach-returns-in_default-clause-here g t c = Completes-all c.wrong_args.result (IsHere c.args.tree.now c.args.tree.now c.args.place) (here-refl c.args.tree.now c.args.place)
+
+pub collecting::lmap-returns-in_default-clause-here : goal.collecting::lmap-returns-in_default-clause-here
+collecting::lmap-returns-in_default-clause-here g t c = Completes-all c.wrong_args.result (IsHere c.args.tree.now c.args.tree.now c.args.place) (here-refl c.args.tree.now c.args.place)
+
+pub interpreters::interp-returns-in_default-clause-here : goal.interpreters::interp-returns-in_default-clause-here
+interpreters::interp-returns-in_default-clause-here g t c = Completes-all c.wrong_args.result (IsHere c.args.tree.now c.args.tree.now c.args.place) (here-refl c.args.tree.now c.args.place)
+
+pub interpreters::interp-returns-in_default-interp_subcommand-clause-here : goal.interpreters::interp-returns-in_default-interp_subcommand-clause-here
+interpreters::interp-returns-in_default-interp_subcommand-clause-here g t c = Completes-all c.unknown_subcommand.result (IsHere c.args.tree.now c.args.tree.now c.args.place) (here-refl c.args.tree.now c.args.place)
+
+pub interpreters::eval_in-returns-then-is_empty-clause-here : goal.interpreters::eval_in-returns-then-is_empty-clause-here
+interpreters::eval_in-returns-then-is_empty-clause-here g t c = Completes-all c.wrong_words.result (IsHere c.args.tree.now c.args.tree.now c.args.place) (here-refl c.args.tree.now c.args.place)
+
+pub children::child-returns-in_default-clause-here : goal.children::child-returns-in_default-clause-here
+children::child-returns-in_default-clause-here g t c = Completes-all c.wrong_child_args.result (IsHere c.args.tree.now c.args.tree.now c.args.place) (here-refl c.args.tree.now c.args.place)
+
+pub children::child-returns-in_default-child_subcommand-clause-here : goal.children::child-returns-in_default-child_subcommand-clause-here
+children::child-returns-in_default-child_subcommand-clause-here g t c = Completes-all c.unknown_subcommand.result (IsHere c.args.tree.now c.args.tree.now c.args.place) (here-refl c.args.tree.now c.args.place)
+
+pub trying::try_script-returns-in_default-clause-here : goal.trying::try_script-returns-in_default-clause-here
+trying::try_script-returns-in_default-clause-here g t c = Completes-all c.wrong_args.result (IsHere c.args.tree.now c.args.tree.now c.args.place) (here-refl c.args.tree.now c.args.place)
+
+pub hosting::put_line-returns-in-Err-TooLong-clause-here : goal.hosting::put_line-returns-in-Err-TooLong-clause-here
+hosting::put_line-returns-in-Err-TooLong-clause-here g t c = Completes-all c.too_long.result (IsHere c.args.tree.now c.args.tree.now c.args.place) (here-refl c.args.tree.now c.args.place)
+
+pub hosting::puts-returns-else-eq-2-clause-here : goal.hosting::puts-returns-else-eq-2-clause-here
+hosting::puts-returns-else-eq-2-clause-here g t c = Completes-all c.wrong_args.result (IsHere c.args.tree.now c.args.tree.now c.args.place) (here-refl c.args.tree.now c.args.place)
+
+pub hosting::puts-returns-in_default-clause-here : goal.hosting::puts-returns-in_default-clause-here
+hosting::puts-returns-in_default-clause-here g t c = Completes-all c.wrong_args-in_default.result (IsHere c.args.tree.now c.args.tree.now c.args.place) (here-refl c.args.tree.now c.args.place)
+
+pub sourcing::source-returns-in_default-clause-here : goal.sourcing::source-returns-in_default-clause-here
+sourcing::source-returns-in_default-clause-here g t c = Completes-all c.wrong_args.result (IsHere c.args.tree.now c.args.tree.now c.args.place) (here-refl c.args.tree.now c.args.place)
+
+pub crossing::serve_entry-returns-clause-here : goal.crossing::serve_entry-returns-clause-here
+crossing::serve_entry-returns-clause-here g t c = Completes-all c.denied.result (IsHere c.args.tree.now c.args.tree.now c.args.place) (here-refl c.args.tree.now c.args.place)
+
+pub commands::call-returns-in_default-clause-here : goal.commands::call-returns-in_default-clause-here
+commands::call-returns-in_default-clause-here g t c = here-refl c.args.tree.now c.args.place
+
+pub commands::call_hidden-returns-in_default-clause-here : goal.commands::call_hidden-returns-in_default-clause-here
+commands::call_hidden-returns-in_default-clause-here g t c = here-refl c.args.tree.now c.args.place
+
+pub evaluation::eval_lone_part-returns-in-Element-clause-here : goal.evaluation::eval_lone_part-returns-in-Element-clause-here
+evaluation::eval_lone_part-returns-in-Element-clause-here g t c = here-refl c.args.tree.now c.args.place
+
+pub evaluation::eval_lone_part-returns-in-EndElement-clause-here : goal.evaluation::eval_lone_part-returns-in-EndElement-clause-here
+evaluation::eval_lone_part-returns-in-EndElement-clause-here g t c = here-refl c.args.tree.now c.args.place
+
+pub trying::run_handler-returns-in_default-clause-here : goal.trying::run_handler-returns-in_default-clause-here
+trying::run_handler-returns-in_default-clause-here g t c = here-refl c.args.tree.now c.args.place
+
+pub switching::switch-returns-in_default-clause-here : goal.switching::switch-returns-in_default-clause-here
+switching::switch-returns-in_default-clause-here g t c = here-refl c.args.tree.now c.args.place
+
 -- # Calls that pass the top of the tree, and what is handed in
 
 pub waiting::enter-serve_entry-requires : goal.waiting::enter-serve_entry-requires
