@@ -86,6 +86,10 @@ pub told_end : (d : Bool) (k : RecordView) (V : Tree Own) (t : Place) (x : Reply
 told_end true k V t x = refl
 told_end false k V t x = refl
 
+pub end_noted : (d : Bool) (k : RecordView) (V : Tree Own) (t : Place) (x : Reply) → after k (noted_of d V (event t (Done None x))) ≡ noted_in d k (event t (Done None x))
+end_noted true k V t x = sym (after_none k)
+end_noted false k V t x = refl
+
 module _ {I S : Type 0} (goes : Going S) (prog : Table Own I) (T V : Tree Own) where
   pub watched_visit : (o u w z : Recorder S) (t : Place) (i : Entry) (r : Reply) (node : Node Own) → T t ≡ Some node →
       recorded goes T o None (event t (In None i)) u → Executes (Crossings (recorded goes)) prog T u t (prog.entry i) V w r → recorded goes V w None (event t (Done None r)) z →
