@@ -6,13 +6,12 @@ use Rattle.tcl_core.specs.Paths.{Path}
 use Rattle.tcl_core.specs.Trees.{effect}
 use Rattle.tcl_core.specs.Trees.What.{DepthLimited, Limited}
 use Rattle.tcl_host.specs.MemoryHost.{new_host, with_file, with_input}
-use Rattle.tcl_interpreter.specs.Commands.{way_between}
+use Rattle.tcl_interpreter.specs.Commands.{way_between, way_past}
 use Rattle.tcl_interpreter.specs.declared.command.Command.TheVariants as command
 use Rattle.tcl_sessions.specs.Calls.{Answers}
 use Rattle.tcl_sessions.specs.Evaluations.{Evaluates, watched_of}
 use Rattle.tcl_sessions.specs.Files.{OnlyHost}
 use Rattle.tcl_sessions.specs.Sessions.{KeepsRest}
-use Rattle.tcl_sessions.specs.Trees.{way_out}
 use Rattle.tcl_sessions.specs.declared.evaluation.Evaluation.{Evaluation}
 use Rattle.tcl_sessions.specs.declared.outcome.Outcome.{Outcome}
 use Rattle.tcl_sessions.specs.declared.session.Session.{Session}
@@ -56,7 +55,7 @@ pub record AliasesOut (path name words : List ℕ) (s z : Session) : Type 0 wher
   pub spelled : Spells at path
   pub words_spelled : Spells front words
   pub set : Becomes (tree_of s.tree) (tree_of z.tree) at
-      (λ own. named own name (command.Alias (way_out at front)))
+      (λ own. named own name (command.Alias (way_past at front)))
   pub rest : KeepsRest s z
 
 -- an alias goes there

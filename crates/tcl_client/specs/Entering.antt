@@ -1,10 +1,9 @@
 -- Messages as entries.
-use Rattle.std.specs.Prelude.{◌≡◌, ℕ, ◌+◌, Bool, true, false, List, [], ◌∷◌, ◌++◌, length, Some}
-use Rattle.std.specs.Prelude.{None}
+use Rattle.std.specs.Prelude.{◌≡◌, ℕ, Bool, true, false, List, [], ◌∷◌, ◌++◌, Some, None}
 use Rattle.tcl_core.specs.Entries as entry
 use Rattle.tcl_core.specs.Entries.{Entry}
 use Rattle.tcl_core.specs.Paths.{Path, Text}
-use Rattle.tcl_interpreter.specs.Commands.{AliasView, way_between}
+use Rattle.tcl_interpreter.specs.Commands.{AliasView, way_between, way_past}
 use Rattle.tcl_protocol.specs.Messages as ask
 use Rattle.tcl_protocol.specs.Messages.{Ask, Asks, Evaluate, OnTree}
 use Rattle.tcl_protocol.specs.declared.refusals.Refusal.{Refusal}
@@ -14,9 +13,9 @@ use Rattle.tcl_protocol.specs.declared.refusals.Refusal.TheVariants as refusal
 abbrev pub AtChild : Path → (Path → Text → Type 0) → Type 0
 AtChild path P = (p : Path) × (n : Text) × (path ≡ p ++ n ∷ []) × P p n
 
--- The way of an interpreter at p leads one level above the root, to the client.
+-- An alias of an interpreter at p to the client: its calls leave the tree.
 abbrev pub client_way : Path → List Text → AliasView
-client_way p words = record { up = length p + 1; down = []; words = words }
+client_way p words = way_past p words
 
 -- an alias that leads so is set
 abbrev pub sets : Text → AliasView → Entry

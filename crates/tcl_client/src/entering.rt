@@ -43,8 +43,7 @@ pub fn client_alias(alloc: Global, path: &[Text], words: &[Text]) -> Result<alia
     ensures fault { IfErr result IsMisfit }
 {
     let words = values_of(alloc, words)?;
-    let down = Vec::new(alloc);
-    Ok(alias::Alias::new(alloc, path.len() + 1, down, words)?)
+    Ok(alias::Alias::past(alloc, path, words)?)
 }
 
 /// What a script is evaluated by.

@@ -1,13 +1,13 @@
 -- What comes of asking: one law for what an interpreter asks of itself and one for a call of another, for any entry and any run inside.
-use Rattle.std.proofs.Common.{◌≡◌, ℕ, suc, ◌+◌, ◌-◌, false, [], ◌∷◌, ◌++◌, length, Some, None, refl, sym, ◌∙◌, ap, subst, arith}
-use Rattle.std.specs.Prelude.{nat_lt, nat_eq}
+use Rattle.std.proofs.Common.{◌≡◌, ℕ, suc, false, [], ◌∷◌, ◌++◌, length, Some, None, refl, sym, ◌∙◌, ap, subst, arith}
+use Rattle.std.specs.Prelude.{nat_eq}
 use Rattle.std.proofs.lemmas.Bool.Decides.{nat_tests}
 use Rattle.tcl_core.specs.Endings.{Completion, Reply}
 use Rattle.tcl_core.specs.Endings.Reply.{Completed, Stop, Exit, Cut}
 use Rattle.tcl_core.specs.Entries.{Entry}
-use Rattle.tcl_core.specs.Paths.{Path, Place, rise, rise_to, rejoined, falls, together}
+use Rattle.tcl_core.specs.Paths.{Path, Place, rise, rise_to, rejoined}
 use Rattle.tcl_core.specs.Programs.Prog.{go, call}
-use Rattle.tcl_core.specs.Runs.{carried, lessened}
+use Rattle.tcl_core.specs.Runs.{returned}
 use Rattle.tcl_core.specs.Execution.{passed}
 use Rattle.tcl_core.specs.Trees.{Tree, Node}
 use Rattle.tcl_language.specs.Instructions.{Instr}
@@ -29,19 +29,6 @@ rise_zero (x ∷ q) =
     let d : nat_eq 0 (suc (length q)) ≡ false = grind (arith, nat_tests) in
     ap (λ b. rejoined x (rise 0 q) b) d ∙ ap (λ o. rejoined x o false) (rise_zero q)
 
--- what an interpreter asks of itself it is told as it was
-pub carried_here : (p : Path) (r : Reply) → carried (Some 0) p [] r ≡ r
-carried_here p (Completed c) = refl
-carried_here p (Stop n m) = by (together (falls 0 p) [])
-  where
-    by : (k : ℕ) → lessened (nat_lt (n + k) 0) (n + 0 - 0) m ≡ Stop n m
-    by k =
-        let t : nat_lt (n + k) 0 ≡ false = grind (arith, nat_tests) in
-        let e : n + 0 - 0 ≡ n = omega arith in
-        (λ i. lessened (t i) (e i) m)
-carried_here p (Exit n) = refl
-carried_here p (Cut c) = refl
-
 module _ {S : Type 0} (goes : Going S) (style : Integers) where
   -- an instruction by itself
   pub inner_goes : {T U : Tree Own} {o u : S} {p : Place} (i : Instr) (e : Reply) → Comes goes (language style) T o p (program style i) U u e → GoesOn goes style T o p (go i) U u e
@@ -56,7 +43,7 @@ module _ {S : Type 0} (goes : Going S) (style : Integers) where
 
   -- a call of the interpreter so many levels up and these names down, which was told the end that came of it
   pub call_goes : {T U : Tree Own} {o u v w : S} {m : Node Own} {s : Reply} (p : Place) (n : ℕ) (down : Path) (i : Entry) (lost : Completion) (a : Place) (r : Reply) → rise_to (Some n) p ≡ Some a → T (a ++ down) ≡ Some m →
-      Enters goes T o p n a down i u → Comes goes (language style) T u (a ++ down) (serve style i) U v s → r ≡ carried (Some n) p down s → Returns goes U v p n a down s r w → GoesOn goes style T o p (λ k. call (Some n) down i lost (finished k)) U w r
+      Enters goes T o p n a down i u → Comes goes (language style) T u (a ++ down) (serve style i) U v s → r ≡ returned T U (Some n) p down s → Returns goes U v p n a down s r w → GoesOn goes style T o p (λ k. call (Some n) down i lost (finished k)) U w r
   call_goes {U = U} {v = v} {w} {s = s} p n down i lost a (Completed c) e there x t f y = λ k V z r g. calls_on a e there x t (sym f) (subst (λ (l : Reply). Returns goes U v p n a down s l w) f y) g
   call_goes p n down i lost a (Stop l k) e there x t f y = λ h. calls_passed a e there x t (sym f) tt y
   call_goes p n down i lost a (Exit l) e there x t f y = λ k. calls_passed a e there x t (sym f) tt y

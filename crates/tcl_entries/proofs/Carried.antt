@@ -7,6 +7,7 @@ use Rattle.tcl_core.specs.Endings.{Reply, error}
 use Rattle.tcl_core.specs.Endings.Reply.{Completed}
 use Rattle.tcl_core.specs.Entries.{Entry}
 use Rattle.tcl_core.specs.Paths.{Path, rise_to}
+use Rattle.tcl_core.specs.Trees.{depth_of}
 use Rattle.tcl_language.specs.Instructions.{Program}
 use Rattle.tcl_language.specs.Interpreters.{asks_at, no_interpreter}
 use Rattle.tcl_language_laws.specs.Language.{language}
@@ -21,9 +22,10 @@ use Rattle.tcl_run.specs.declared.interruption.Interruption.{Interruption}
 use Rattle.tcl_run.specs.declared.interruption.Interruption.TheVariants as interruption
 use Rattle.tcl_run.proofs.Endings.{IfEnded-more, IfEnded-both}
 use Rattle.tcl_run.proofs.Plain.{does_comes}
-use Rattle.tcl_run.proofs.Steady.{stands, still_at}
+use Rattle.tcl_run.proofs.Steady.{stands, steady_holds}
 use Rattle.tcl_text.specs.declared.integer.Integers.{Integers}
 use Rattle.tcl_tree.specs.Reaching.{Leads as Reached}
+use Rattle.tcl_tree.specs.Gone.{Holds}
 use Rattle.tcl_tree.specs.TreeOf.{tree_of, Names}
 use Rattle.tcl_tree.specs.declared.tree.Tree.{Tree as Table}
 use Rattle.tcl_tree.specs.declared.tree.Place.{Place as TablePlace}
@@ -32,6 +34,7 @@ use Rattle.tcl_tree.proofs.CoreLemmas.{tree_there}
 use Rattle.tcl_calls.specs.Carrying.{ComesBack, EndedBy}
 use Rattle.tcl_entries.specs.Asking.{Asks, AsksBelow, GoesOn, asks_below}
 use Rattle.tcl_entries.proofs.Asked.{rise_zero, serve_goes, call_goes, lost_goes}
+use Rattle.tcl_entries.proofs.Reached.{there_below}
 
 -- what is said of an end wherever the interpreter is that runs
 abbrev pub AtEach : Table → TablePlace → (Path → Integers → Reply → Type 0) → Reply → Type 0
@@ -93,15 +96,13 @@ module _ {S : Type 0} (goes : Going S) (old new : Table) (o : S) (place : TableP
   pub asks_there : (u v w : S) (there : TablePlace) (ended : Result (List ℕ) Interruption) → ((p : Path) → Names old place p → Reached old p 0 path (reach.There there)) →
       ((p a : Path) → Names old place p → rise_to (Some 0) p ≡ Some a → Enters goes (tree_of old) o p 0 a path entry u) →
       EvaluatesAt goes old u there (λ style. serve style entry) new v ended →
-      IfEnded result (λ r. (p a : Path) → Names new place p → rise_to (Some 0) p ≡ Some a → ComesBack goes (tree_of new) v p 0 a path ended r w) → IsSteady old new → AsksBelow goes old o place path entry new w result
-  asks_there u v w there ended leads enters runs comes steady = IfEnded-more result (λ r. (p a : Path) → Names new place p → rise_to (Some 0) p ≡ Some a → ComesBack goes (tree_of new) v p 0 a path ended r w)
+      IfEnded result (λ r. (p a : Path) (d : ℕ) → Holds new place p d → rise_to (Some 0) p ≡ Some a → ComesBack goes (tree_of new) v p d 0 a path ended r w) → IsSteady old new → AsksBelow goes old o place path entry new w result
+  asks_there u v w there ended leads enters runs comes steady = IfEnded-more result (λ r. (p a : Path) (d : ℕ) → Holds new place p d → rise_to (Some 0) p ≡ Some a → ComesBack goes (tree_of new) v p d 0 a path ended r w)
       (λ e. (p : Path) (style : Integers) → IsAt old place p style → GoesOn goes style (tree_of old) o p (asks_below path entry) (tree_of new) w e)
       (λ r back p style at.
-      let lead = leads p at.names in
-      let here : lead.0 ≡ p = same_Some _ _ (sym lead.1 ∙ rise_zero p) in
-      let named : Names old there (p ++ path) = subst (λ (a : Path). Names old there (a ++ path)) here lead.2 in
+      let named : Names old there (p ++ path) = there_below old place there path leads p at.names in
       let m = stands (tree_of old (p ++ path)) (tree_there old (p ++ path) _ named) in
-      let told = back p p (still_at old new place p style steady at).names (rise_zero p) in
+      let told = back p p (depth_of (tree_of old p)) (steady_holds old new place p steady at.names at.running) (rise_zero p) in
       call_goes goes style p 0 path entry (error (no_interpreter [])) p r (rise_zero p) m.1 (enters p p at.names (rise_zero p))
       (ended_by ended told.reply (λ s. (q : Path) (z : Integers) → IsThere old there q z → Comes goes (language z) (tree_of old) u q (serve z entry) (tree_of new) v s) told.ended_so runs (p ++ path) style (record { names = named; style_is = at.style_is }))
       told.told_so told.returns) comes

@@ -49,7 +49,7 @@ use Rattle.tcl_interpreter.specs.declared.refusal.TreeError.TheVariants as refus
 use Rattle.tcl_tree.specs.declared.tree.Tree.{Tree as Table}
 use Rattle.tcl_tree.specs.declared.tree.Place.{Place as TablePlace}
 use Rattle.tcl_tree.proofs.CoreLemmas.{tree_there}
-use Rattle.tcl_entries.specs.Naming.{Tells, making_text, deleting_text}
+use Rattle.tcl_entries.specs.Naming.{Tells, making_text}
 use Rattle.tcl_entries.proofs.Changing.{is_name_same}
 
 -- how a program ends in the interpreter that a place names
@@ -96,7 +96,6 @@ tells_cases refusal.BadName message i t = inr (λ e. cc, t)
 tells_cases refusal.BadCount message i t = inr (λ e. cc, t)
 tells_cases refusal.NoInterpreter message i t = inr (λ e. cc, t)
 tells_cases refusal.Exists message i t = inr (λ e. cc, t)
-tells_cases refusal.InUse message i t = inr (λ e. cc, t)
 tells_cases refusal.Denied message i t = inr (λ e. cc, t)
 tells_cases refusal.NoCommand message i t = inr (λ e. cc, t)
 tells_cases refusal.NoHidden message i t = inr (λ e. cc, t)
@@ -210,7 +209,6 @@ depth_refused t u place limit e i here below refuses same told = fails_told t u 
     why p n at is refusal.BadCount h = elim h [ ]
     why p n at is refusal.NoInterpreter h = elim h [ ]
     why p n at is refusal.Exists h = elim h [ ]
-    why p n at is refusal.InUse h = elim h [ ]
     why p n at is refusal.NoCommand h = elim h [ ]
     why p n at is refusal.NoHidden h = elim h [ ]
     why p n at is refusal.TooMany h = elim h [ ]
@@ -316,7 +314,6 @@ module _ (t u : Table) (place : TablePlace) (name : Text) (safe : Bool) (absent 
       (ap (λ (m : Node Own). nat_le 256 (length m.own.children)) (sym v) ∙ many) d)))
   create_refused refusal.NoInterpreter i here refuses told = let n = there t place here.0 here.1 in let clash : None ≡ Some n.0 = sym (refuses here.0 here.1) ∙ n.1 in absurd cc
   create_refused refusal.BadCount i here refuses told = elim (refuses here.0 here.1) [ ]
-  create_refused refusal.InUse i here refuses told = elim (refuses here.0 here.1) [ ]
   create_refused refusal.Denied i here refuses told = elim (refuses here.0 here.1) [ ]
   create_refused refusal.NoCommand i here refuses told = elim (refuses here.0 here.1) [ ]
   create_refused refusal.NoHidden i here refuses told = elim (refuses here.0 here.1) [ ]
@@ -326,53 +323,42 @@ module _ (t u : Table) (place : TablePlace) (name : Text) (safe : Bool) (absent 
 
 -- ## Deleting
 
-drops_child : {S : Type 0} {goes : Going S} {language : programs.Table Own Instr} {T U : Tree Own} {o z : S} {p : Path} {name : Text} {n c : Node Own} {r : Reply} → T p ≡ Some n → T (p ++ name ∷ []) ≡ Some c → c.depth ≡ 0 →
+drops_child : {S : Type 0} {goes : Going S} {language : programs.Table Own Instr} {T U : Tree Own} {o z : S} {p : Path} {name : Text} {n c : Node Own} {r : Reply} → T p ≡ Some n → T (p ++ name ∷ []) ≡ Some c →
     U ≡ effect (p ++ name ∷ []) Dropped (effect p (Changed (without_old_child name n.own)) T) → ((X : Tree Own) → goes X o None (event (p ++ name ∷ []) Dropped) z) → r ≡ Completed (ok []) → Comes goes language T o p (interpreters.deletes name) U z r
-drops_child {T = T} {p = p} {name = name} {n = n} is child idle dropped told e =
+drops_child {T = T} {p = p} {name = name} {n = n} is child dropped told e =
     looks {k = λ m. act Look (λ V. interpreters.drops name m.own (V (name ∷ [])))} is
-    (sees_below {k = λ V. interpreters.drops name n.own (V (name ∷ []))} (at_prog (ap (interpreters.drops name n.own) child ∙ ap (interpreters.drops_at name n.own) idle)
-    (changes is refl (drops {k = λ V. done (ok [])} (changed_child T p name (without_old_child name n.own) ∙ child) idle dropped (told _) (at_reply e completed)))))
+    (sees_below {k = λ V. interpreters.drops name n.own (V (name ∷ []))} (at_prog (ap (interpreters.drops name n.own) child)
+    (changes is refl (drops {k = λ V. done (ok [])} (changed_child T p name (without_old_child name n.own) ∙ child) dropped (told _) (at_reply e completed)))))
 
 -- a child is dropped, of which the outside is told
 pub deleted : {S : Type 0} (goes : Going S) (t u : Table) (o z : S) (place : TablePlace) (name : Text) (text : Text) → text ≡ [] → ((p : Path) → Names t place p → IsSome (tree_of t (p ++ name ∷ []))) →
-    ((p : Path) → Names t place p → (v : Node Own) → tree_of t (p ++ name ∷ []) ≡ Some v → v.depth ≡ 0) → ((p : Path) → Names t place p → Drops (tree_of t) (tree_of u) p name) →
+    ((p : Path) → Names t place p → Drops (tree_of t) (tree_of u) p name) →
     ((p : Path) → Names t place p → Names u place p) → ((X : Tree Own) (p : Path) → Names u place p → goes X o None (event (p ++ name ∷ []) Dropped) z) → EvaluatesAt goes t o place (λ style. interpreters.deletes name) u z (Ok text)
-deleted goes t u o z place name text none stays idle drops kept told = λ p style at.
+deleted goes t u o z place name text none stays drops kept told = λ p style at.
     let n = there t place p at.names in
     let c = stands (tree_of t (p ++ name ∷ [])) (some_there (tree_of t (p ++ name ∷ [])) (stays p at.names)) in
-    drops_child n.1 c.1 (idle p at.names c.0 c.1) (drops p at.names n.0 n.1) (λ X. told X p (kept p at.names)) (ap (λ (x : Text). Completed (ok x)) none)
+    drops_child n.1 c.1 (drops p at.names n.0 n.1) (λ X. told X p (kept p at.names)) (ap (λ (x : Text). Completed (ok x)) none)
 
+-- none is there
 pub delete_refused : (t u : Table) (place : TablePlace) (name : Text) (e : TreeError) (i : Interruption) → (p : Path) × Names t place p → ((p : Path) → Names t place p → RefusesDrop e (tree_of t) p name) → tree_of u ≡ tree_of t →
-    Interrupts i (λ r. r ≡ Completed (failing (deleting_text e name))) → Interrupts i (EndsAt t place (interpreters.deletes name) (tree_of u))
-delete_refused t u place name e i here refuses same told = by e refuses told
+    Interrupts i (λ r. r ≡ Completed (failing (interpreters.no_interpreter (written_list (name ∷ []))))) → Interrupts i (EndsAt t place (interpreters.deletes name) (tree_of u))
+delete_refused t u place name e i here refuses same told = by e refuses
   where
-    leads : (message : Text) → Interrupts i (λ r. r ≡ Completed (failing message)) →
-        ((p : Path) (n : Node Own) (r : Reply) → Names t place p → Does (fails message) (tree_of t) p (tree_of t) r → Does (interpreters.drops name n.own (tree_of t (p ++ name ∷ []))) (tree_of t) p (tree_of t) r) →
-        Interrupts i (EndsAt t place (interpreters.deletes name) (tree_of u))
-    leads message said f = fails_told t u place (interpreters.deletes name) message i same said (λ p n r at is d.
-        does_look (tree_of t) (tree_of t) p r n (λ m. act Look (λ U. interpreters.drops name m.own (U (name ∷ [])))) is (f p n r at d))
-
-    busy : (p : Path) (n : Node Own) (r : Reply) (k : ℕ) → 0 < k → Does (fails (interpreters.in_use [])) (tree_of t) p (tree_of t) r → Does (interpreters.drops_at name n.own k) (tree_of t) p (tree_of t) r
-    busy p n r zero h d = absurd (omega arith)
-    busy p n r (suc k) h d = d
-
-    by : (e : TreeError) → ((p : Path) → Names t place p → RefusesDrop e (tree_of t) p name) → Interrupts i (λ r. r ≡ Completed (failing (deleting_text e name))) → Interrupts i (EndsAt t place (interpreters.deletes name) (tree_of u))
-    by refusal.NoInterpreter h said = leads (interpreters.no_interpreter (written_list (name ∷ []))) said (λ p n r at d.
-        subst (λ (o : Option (Node Own)). Does (interpreters.drops name n.own o) (tree_of t) p (tree_of t) r) (sym (h p at)) d)
-    by refusal.InUse h said = leads (interpreters.in_use []) said (λ p n r at d.
-        let v = h p at in
-        subst (λ (o : Option (Node Own)). Does (interpreters.drops name n.own o) (tree_of t) p (tree_of t) r) (sym v.1) (busy p n r v.0.depth v.2 d))
-    by refusal.Memory h said = elim (h here.0 here.1) [ ]
-    by refusal.BadName h said = elim (h here.0 here.1) [ ]
-    by refusal.BadCount h said = elim (h here.0 here.1) [ ]
-    by refusal.Exists h said = elim (h here.0 here.1) [ ]
-    by refusal.Denied h said = elim (h here.0 here.1) [ ]
-    by refusal.NoCommand h said = elim (h here.0 here.1) [ ]
-    by refusal.NoHidden h said = elim (h here.0 here.1) [ ]
-    by refusal.TooMany h said = elim (h here.0 here.1) [ ]
-    by (refusal.CountLimit n) h said = elim (h here.0 here.1) [ ]
-    by (refusal.DepthLimit n) h said = elim (h here.0 here.1) [ ]
-    by refusal.BadDepthLimit h said = elim (h here.0 here.1) [ ]
+    by : (e : TreeError) → ((p : Path) → Names t place p → RefusesDrop e (tree_of t) p name) → Interrupts i (EndsAt t place (interpreters.deletes name) (tree_of u))
+    by refusal.NoInterpreter h = fails_told t u place (interpreters.deletes name) (interpreters.no_interpreter (written_list (name ∷ []))) i same told (λ p n r at is d.
+        does_look (tree_of t) (tree_of t) p r n (λ m. act Look (λ U. interpreters.drops name m.own (U (name ∷ [])))) is
+        (subst (λ (o : Option (Node Own)). Does (interpreters.drops name n.own o) (tree_of t) p (tree_of t) r) (sym (h p at)) d))
+    by refusal.Memory h = elim (h here.0 here.1) [ ]
+    by refusal.BadName h = elim (h here.0 here.1) [ ]
+    by refusal.BadCount h = elim (h here.0 here.1) [ ]
+    by refusal.Exists h = elim (h here.0 here.1) [ ]
+    by refusal.Denied h = elim (h here.0 here.1) [ ]
+    by refusal.NoCommand h = elim (h here.0 here.1) [ ]
+    by refusal.NoHidden h = elim (h here.0 here.1) [ ]
+    by refusal.TooMany h = elim (h here.0 here.1) [ ]
+    by (refusal.CountLimit n) h = elim (h here.0 here.1) [ ]
+    by (refusal.DepthLimit n) h = elim (h here.0 here.1) [ ]
+    by refusal.BadDepthLimit h = elim (h here.0 here.1) [ ]
 
 -- ## Ends that are passed on
 

@@ -1,13 +1,12 @@
 -- What refusals of the table come to.
-use Rattle.std.specs.Prelude.{◌≡◌, [], ◌∷◌}
+use Rattle.std.specs.Prelude.{◌≡◌}
 use Rattle.tcl_core.specs.Endings.Reply.{Completed}
 use Rattle.tcl_core.specs.Paths.{Text}
 use Rattle.tcl_language.specs.Faults.{invalid_command}
-use Rattle.tcl_language.specs.Interpreters.{refusal_text, in_use, no_interpreter}
+use Rattle.tcl_language.specs.Interpreters.{refusal_text}
 use Rattle.tcl_run.specs.Ends.{Interrupts, failing}
 use Rattle.tcl_run.specs.declared.interruption.Interruption.{Interruption}
 use Rattle.tcl_run.specs.declared.interruption.Interruption.TheVariants as interruption
-use Rattle.tcl_text.specs.Writing.{written_list}
 use Rattle.tcl_text.specs.Messages as messages
 use Rattle.tcl_interpreter.specs.declared.refusal.TreeError.{TreeError}
 use Rattle.tcl_interpreter.specs.declared.refusal.TreeError.TheVariants as refusal
@@ -22,12 +21,7 @@ abbrev pub hiding_text : TreeError → Text → Text → Text
 hiding_text refusal.NoCommand name hidden = invalid_command name
 hiding_text e name hidden = refusal_text e hidden
 
--- of one to make a child
+-- and of one to make a child
 abbrev pub making_text : TreeError → Text → Text
 making_text refusal.TooMany name = messages.too_many
 making_text e name = refusal_text e name
-
--- and of one to delete a child
-abbrev pub deleting_text : TreeError → Text → Text
-deleting_text refusal.InUse name = in_use []
-deleting_text e name = no_interpreter (written_list (name ∷ []))

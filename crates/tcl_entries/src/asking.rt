@@ -3,7 +3,7 @@ ghost use Rattle.std.specs.Prelude.{◌≡◌, ◌++◌, IfOk, IfErr, Ok};
 ghost use Rattle.tcl_core.specs.Paths.{Path};
 ghost use Rattle.tcl_language.specs.Interpreters as interpreters;
 ghost use Rattle.tcl_run.specs.Ends.{Interrupts, IsFailure};
-ghost use Rattle.tcl_run.specs.Runs.{EvaluatesAt, IsRunning, KeepsAndLoses};
+ghost use Rattle.tcl_run.specs.Runs.{EvaluatesAt, IsHere, IsRunning, KeepsAndLoses};
 ghost use Rattle.tcl_text.specs.Lists.{list_of};
 ghost use Rattle.tcl_text.specs.Writing.{fault_message};
 ghost use Rattle.tcl_tree.specs.TreeOf.{Names};
@@ -45,6 +45,7 @@ pub fn ask<O: Outside>(
         (entry_of entry) tree.new outside.new
         result }
     ensures keeps { KeepsAndLoses O.entries_left O.loses tree.old tree.new outside.old outside.new }
+    ensures here { IsHere tree.old tree.new place }
 {
     if path.is_empty() {
         return serve(tree, alloc, outside, place, &entry);
@@ -68,6 +69,7 @@ fn ask_below<O: Outside>(
         (whole_entry entry) tree.new
         outside.new result }
     ensures keeps { KeepsAndLoses O.entries_left O.loses tree.old tree.new outside.old outside.new }
+    ensures here { IsHere tree.old tree.new place }
 {
     match tree.reach(place, 0, path) {
         Reach::There(there) => {
@@ -110,6 +112,7 @@ fn serve_own<O: Outside>(
     ensures runs { EvaluatesAt O.goes tree.old outside.old place
         (λ style. table.serve style (whole_entry entry.now)) tree.new outside.new result }
     ensures keeps { KeepsAndLoses O.entries_left O.loses tree.old tree.new outside.old outside.new }
+    ensures here { IsHere tree.old tree.new place }
 {
     let Entry::Own(own) = entry else {
         unreachable!();

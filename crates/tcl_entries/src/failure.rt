@@ -27,7 +27,6 @@ pub fn refusal_failure(alloc: Global, refusal: TreeError, word: &str) -> Interru
         TreeError::NoHidden => invalid_hidden(alloc, word),
         TreeError::BadCount
         | TreeError::NoInterpreter
-        | TreeError::InUse
         | TreeError::Denied
         | TreeError::TooMany
         | TreeError::CountLimit(_)
@@ -46,7 +45,7 @@ pub fn hiding_failure(alloc: Global, refusal: TreeError, name: &str, hidden: &st
     }
 }
 
-/// An evaluation is in progress in the interpreter, or it is the one that asks.
+/// The interpreter is the one that asks, which doesn't delete itself.
 pub fn in_use(alloc: Global, path: &str) -> Interruption
     ensures { Interrupts result (λ e. e ≡ Completed (failing (interpreters.in_use path.now))) }
 {

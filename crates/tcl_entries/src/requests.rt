@@ -1,7 +1,7 @@
 //! Requests of interpreters, whose answers are all that is left.
 ghost use Rattle.tcl_core.specs.Programs.Prog.{done};
 ghost use Rattle.tcl_language.specs.Interpreters as interpreters;
-ghost use Rattle.tcl_run.specs.Runs.{Evaluates, IsRunning, KeepsAndLoses};
+ghost use Rattle.tcl_run.specs.Runs.{Evaluates, IsHere, IsRunning, KeepsAndLoses};
 ghost use Rattle.tcl_run.specs.Entering.{entry_of};
 ghost use Rattle.tcl_entries.specs.Telling.{TellsAs};
 
@@ -28,6 +28,7 @@ pub fn ask_at<O: Outside>(
     ensures evaluates { Evaluates O.goes tree.old outside.old place
         (λ style. interpreters.asks_at path.now (entry_of entry) done) tree.new outside.new result }
     ensures keeps { KeepsAndLoses O.entries_left O.loses tree.old tree.new outside.old outside.new }
+    ensures here { IsHere tree.old tree.new place }
 {
     ask(tree, alloc, outside, place, path, entry)
 }
@@ -64,6 +65,7 @@ pub fn ask_telling<O: Outside>(
         (λ style. interpreters.asks_at path.now (entry_of entry) (interpreters.with_text value))
         tree.new outside.new result }
     ensures keeps { KeepsAndLoses O.entries_left O.loses tree.old tree.new outside.old outside.new }
+    ensures here { IsHere tree.old tree.new place }
 {
     answered_with(ask(tree, alloc, outside, place, path, entry), value)
 }

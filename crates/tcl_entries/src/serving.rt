@@ -8,16 +8,14 @@ ghost use Rattle.tcl_language.specs.Interpreters as interpreters;
 ghost use Rattle.tcl_language.specs.Table as table;
 ghost use Rattle.tcl_run.specs.Ends.{Interrupts, failing};
 ghost use Rattle.tcl_run.specs.Plain.{Acts};
-ghost use Rattle.tcl_run.specs.Runs.{EvaluatesAt, IsLevel, IsSteady, KeepsAndLoses};
+ghost use Rattle.tcl_run.specs.Runs.{EvaluatesAt, IsHere, IsLevel, IsSteady, KeepsAndLoses};
 ghost use Rattle.tcl_text.specs.Writing.{written_list};
 ghost use Rattle.tcl_tree.specs.Own.{Own};
 ghost use Rattle.tcl_tree.specs.TreeOf.{tree_of, Names};
 ghost use Rattle.tcl_run.specs.Entering.{entry_of};
-ghost use Rattle.tcl_entries.specs.Naming.{Tells, making_text, deleting_text};
+ghost use Rattle.tcl_entries.specs.Naming.{Tells, making_text};
 
-use crate::failure::{
-    bad_count, bad_depth_limit, hiding_failure, in_use, refusal_failure, too_many,
-};
+use crate::failure::{bad_count, bad_depth_limit, hiding_failure, refusal_failure, too_many};
 use crate::naming::{kept_name, names_child, names_hidden};
 use crate::questions::{answer, limit_text, node, number_value};
 use std::alloc::{AllocError, Global};
@@ -180,6 +178,7 @@ pub fn limit_depth(
     requires { (p : Path) × Names tree.old place p }
     ensures acts { Acts tree.old place (λ style. interpreters.limits_depth limit) tree.new result }
     ensures steady { IsSteady tree.old tree.new }
+    ensures here { IsHere tree.old tree.new place }
 {
     if node(tree, place).state.root {
         return Err(denied(alloc));
@@ -216,6 +215,7 @@ pub fn create(
     ensures acts { Acts tree.old place
         (λ style. interpreters.creates name.now safe) tree.new result }
     ensures steady { IsSteady tree.old tree.new }
+    ensures here { IsHere tree.old tree.new place }
 {
     if let Some(_child) = tree.child_at(place, name) {
         return Err(already_exists(alloc, name.as_str()));
@@ -259,21 +259,11 @@ pub fn path_text(alloc: Global, name: &Text) -> Result<Text, AllocError>
     Text::from_string(alloc, out)
 }
 
-/// The error that a refusal to delete a child is.
-fn deleting_failure(alloc: Global, refusal: TreeError, name: &Text) -> Interruption
-    ensures { Interrupts result (λ e. e ≡ Completed (failing (deleting_text refusal name.now))) }
-{
-    match refusal {
-        TreeError::InUse => in_use(alloc, ""),
-        _ => no_child(alloc, name),
-    }
-}
-
-/// Deletes a child of the interpreter that the place names, with all below it. The outside is told
-/// of it.
+/// Deletes a child of the interpreter that the place names, with all below it, also where an
+/// evaluation is in progress in it. The outside is told of it.
 ///
 /// # Errors
-/// 301; 303 where an evaluation is in progress in it; want of memory.
+/// 301; want of memory.
 pub fn delete<O: Outside>(
     tree: &mut Tree,
     alloc: Global,
@@ -285,6 +275,7 @@ pub fn delete<O: Outside>(
     ensures runs { EvaluatesAt O.goes tree.old outside.old place
         (λ style. interpreters.deletes name.now) tree.new outside.new result }
     ensures keeps { KeepsAndLoses O.entries_left O.loses tree.old tree.new outside.old outside.new }
+    ensures here { IsHere tree.old tree.new place }
 {
     match tree.delete_at(place, name) {
         Ok(()) => {
@@ -295,7 +286,7 @@ pub fn delete<O: Outside>(
             outside.notify(alloc, tree, happening)?;
             Ok(Value::empty())
         }
-        Err(refusal) => Err(deleting_failure(alloc, refusal, name)),
+        Err(_) => Err(no_child(alloc, name)),
     }
 }
 
@@ -311,6 +302,7 @@ fn create_named(
     ensures acts { Acts tree.old place
         (λ style. table.serve style (Create name.now safe)) tree.new result }
     ensures steady { IsSteady tree.old tree.new }
+    ensures here { IsHere tree.old tree.new place }
 {
     match name {
         Some(name) => create(tree, alloc, place, name, safe),
@@ -336,6 +328,7 @@ pub fn serve<O: Outside>(
     ensures runs { EvaluatesAt O.goes tree.old outside.old place
         (λ style. table.serve style (entry_of entry.now)) tree.new outside.new result }
     ensures keeps { KeepsAndLoses O.entries_left O.loses tree.old tree.new outside.old outside.new }
+    ensures here { IsHere tree.old tree.new place }
 {
     match entry {
         OwnEntry::SetAlias { name, alias } => set_alias(tree, alloc, place, name, alias),

@@ -5,9 +5,8 @@ use Rattle.tcl_core.specs.Endings.{Reply}
 use Rattle.tcl_run_laws.specs.BudgetLaws.{ScriptsKeepBudgets}
 use Rattle.tcl_run_laws.proofs.Tables.{orderly}
 use Rattle.tcl_core.specs.Entries.Entry.{Eval}
-use Rattle.tcl_core.specs.Lives.{End as Ending, Whole, limited, unlimited}
+use Rattle.tcl_core.specs.Lives.{End as Ending, Whole, unlimited}
 use Rattle.tcl_core.specs.Paths.{Path, Text}
-use Rattle.tcl_core.specs.Runs.{entering}
 use Rattle.tcl_core.specs.Trees.{Tree, Node, effect}
 use Rattle.tcl_core.specs.Trees.What.{Limited}
 use Rattle.tcl_core.proofs.PathLaws.{not_both, Some-inj}
@@ -22,9 +21,8 @@ use Rattle.tcl_language_laws.specs.Language.{language}
 use Rattle.tcl_language.specs.Table.{serve}
 use Rattle.tcl_run.specs.Outsides.{hosted}
 use Rattle.tcl_run.specs.Runs.{Comes, ways}
-use Rattle.tcl_run.proofs.Leads.{at_prog}
 use Rattle.tcl_run.proofs.Losing.{not_at_all}
-use Rattle.tcl_run.proofs.Steady.{stands, still_stands}
+use Rattle.tcl_run.proofs.Steady.{stands}
 use Rattle.tcl_text.specs.declared.integer.Integers.{Integers}
 use Rattle.tcl_tree.specs.Own.{Own}
 use Rattle.tcl_tree.specs.TreeOf.{tree_of, marks_of}
@@ -90,10 +88,7 @@ module _ {S : Type 0} (step : S → Request → HostReply → S → Type 0) (old
   whole_so during reply there runs =
       let style : Integers = (marks_of old).integers in
       let n : (n : Node Own) × (tree_of old path ≡ Some n) = stands (tree_of old path) there in
-      let m : (m : Node Own) × (limited limit (tree_of old) path ≡ Some m) = still_stands (tree_of old) (Some (root_count old + limit)) path n.0 n.1 in
-      let entered : Comes (hosted step) (language style) (limited limit (tree_of old)) o path (entering (language style) (limited limit (tree_of old) path) (Eval script)) during z reply =
-      at_prog (ap (λ x. entering (language style) x (Eval script)) m.1) runs in
-      whole_run step leaves_steps (language style) (tree_of old) during o z path script limit reply (language_keeps_tops style) (stands (tree_of old []) (top_there old)) entered
+      whole_run step leaves_steps (language style) (tree_of old) during o z path script limit reply n.0 (language_keeps_tops style) (stands (tree_of old []) (top_there old)) n.1 runs
 
   is_whole : (e : End) → is_some (tree_of old path) ≡ true → IsRun (hosted step) old o path script (root_count old + limit) new z e → IsWhole step old o path script limit new z e
   is_whole e there run =

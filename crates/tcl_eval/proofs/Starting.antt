@@ -6,7 +6,7 @@ use Rattle.std.proofs.lemmas.Bool.Decides.{nat_tests}
 use Rattle.tcl_core.specs.Paths.{Path, Text, strip}
 use Rattle.tcl_core.specs.Programs.{limit_or}
 use Rattle.tcl_language.specs.Instructions.{fits}
-use Rattle.tcl_tree.specs.TreeOf.{tree_of, marks_of}
+use Rattle.tcl_tree.specs.TreeOf.{key_of, tree_of, marks_of}
 use Rattle.tcl_tree.specs.declared.tree.Tree.{Tree as Table}
 use Rattle.std.specs.Prelude.{Result, Ok, Err, IfOk, IfErr, IfNone, []}
 use Rattle.tcl_partial_runs.specs.Beginnings.{Begun}
@@ -96,11 +96,24 @@ within_run (Some n) first last most there e h r le =
     h.within (ap is_root e ∙ r) most (subst (λ (o : Option (Node Own)). limit_or (limit_at o) ≤ most) (sym e) (search rules))
     (subst (λ (o : Option (Node Own)). count_at o ≤ most) (sym e) le)
 
-pub keeps_counts : (old first last new : Table) (path : Path) (most limit : ℕ) (own : Option ℕ) → tree_of first ≡ effect [] (Limited (Some most)) (tree_of old) → IsSteady first last → IsHeld first last path →
-    tree_of new ≡ effect [] (Limited own) (tree_of last) → most ≡ root_count old + limit → KeepsCounts old path limit new
-keeps_counts old first last new path most limit own begins steady held ends is = record {
-  above = λ a b whole. let x = before a in let y = held.counts a b whole in let z = after a in omega arith;
-  in_use = λ q used. let x = before q in let y = steady.counts q (use_stays q used) in let z = after q in omega arith;
+pub keeps_counts : (old first last new : Table) (path : Path) (most limit : ℕ) (own : Option ℕ) → tree_of first ≡ effect [] (Limited (Some most)) (tree_of old) → ((q : Path) → key_of first q ≡ key_of old q) → IsSteady first last → IsHeld first last path →
+    tree_of new ≡ effect [] (Limited own) (tree_of last) → ((q : Path) → key_of new q ≡ key_of last q) → most ≡ root_count old + limit → KeepsCounts old path limit new
+keeps_counts old first last new path most limit own begins first_keys steady held ends last_keys is = record {
+  above = λ a b k whole was is_now.
+      let x = before a in
+      let y = held.counts a b k whole (first_keys a ∙ was) (sym (last_keys a) ∙ is_now) in
+      let z = after a in
+      omega arith;
+  in_use = λ q k used was is_now.
+      let x = before q in
+      let y = steady.counts q k (use_stays q used) (first_keys q ∙ was) (sym (last_keys q) ∙ is_now) in
+      let z = after q in
+      omega arith;
+  rises =
+      let x = before [] in
+      let y = steady.counted.rises in
+      let z = after [] in
+      omega arith;
   root = λ r.
       let le : count_at (tree_of old []) ≤ most = omega arith in
       let y = within_run (tree_of old []) (tree_of first []) (tree_of last []) most (top_there old) (ap (λ (X : Tree Own). X []) begins) steady.counted r le in
@@ -124,8 +137,9 @@ keeps_counts old first last new path most limit own begins steady held ends is =
 -- where nothing was counted
 pub counts_stay : (old new : Table) (path : Path) (limit : ℕ) → tree_of new ≡ tree_of old → KeepsCounts old path limit new
 counts_stay old new path limit same = record {
-  above = λ a b whole. let e = counts a in omega arith;
-  in_use = λ q used. let e = counts q in omega arith;
+  above = λ a b k whole was is_now. let e = counts a in omega arith;
+  in_use = λ q k used was is_now. let e = counts q in omega arith;
+  rises = let e = counts [] in omega arith;
   root = λ r. let e = counts [] in omega arith;
   top = ap (λ (X : Tree Own). is_root (X [])) same;
 }
@@ -134,16 +148,20 @@ counts_stay old new path limit same = record {
     counts q = ap (λ (X : Tree Own). steps_at X q) same
 
 -- and where the tree only breaks afterwards
-pub counts_after : (old last new : Table) (path : Path) (limit : ℕ) → KeepsCounts old path limit last → tree_of new ≡ tree_of last → KeepsCounts old path limit new
-counts_after old last new path limit h same = record {
-  above = λ a b whole. let x = h.above a b whole in let e = counts a in omega arith;
-  in_use = λ q used. let x = h.in_use q used in let e = counts q in omega arith;
+pub counts_after : (old last new : Table) (path : Path) (limit : ℕ) → KeepsCounts old path limit last → tree_of new ≡ tree_of last → key_of new ≡ key_of last → KeepsCounts old path limit new
+counts_after old last new path limit h same same_keys = record {
+  above = λ a b k whole was is_now. let x = h.above a b k whole was (sym (keys a) ∙ is_now) in let e = counts a in omega arith;
+  in_use = λ q k used was is_now. let x = h.in_use q k used was (sym (keys q) ∙ is_now) in let e = counts q in omega arith;
+  rises = let x = h.rises in let e = counts [] in omega arith;
   root = λ r. let x = h.root r in let e = counts [] in omega arith;
   top = ap (λ (X : Tree Own). is_root (X [])) same ∙ h.top;
 }
   where
     counts : (q : Path) → steps_at (tree_of new) q ≡ steps_at (tree_of last) q
     counts q = ap (λ (X : Tree Own). steps_at X q) same
+
+    keys : (q : Path) → key_of new q ≡ key_of last q
+    keys q = ap (λ f. f q) same_keys
 
 -- ## Where it was given up
 

@@ -13,7 +13,7 @@ use Rattle.tcl_core.specs.Paths.{Path, Text}
 use Rattle.tcl_core.specs.Trees.{Tree, Event, effect}
 use Rattle.tcl_core.specs.Execution.{Crossings, event}
 use Rattle.tcl_core.specs.Trees.What.{Done, Limited}
-use Rattle.tcl_flow.specs.Stopping.{meter_of}
+use Rattle.tcl_flow.specs.Stopping.{kind_of}
 use Rattle.tcl_flow.specs.View.{completion_of}
 use Rattle.tcl_host.specs.declared.reply.HostReply.{HostReply}
 use Rattle.tcl_host.specs.declared.request.Request.{Request}
@@ -28,7 +28,7 @@ use Rattle.tcl_run.specs.Outsides.{Going}
 use Rattle.tcl_run.specs.Runs.{Comes, InUse, IsLoss, Ways, is_root, steps_at}
 use Rattle.tcl_tree.specs.Own.{Own}
 use Rattle.tcl_run_laws.specs.UnfinishedLaws.{IsBeginning}
-use Rattle.tcl_tree.specs.TreeOf.{tree_of, marks_of}
+use Rattle.tcl_tree.specs.TreeOf.{tree_of, marks_of, key_of}
 use Rattle.tcl_tree.specs.declared.tree.Tree.{Tree as Table}
 use Rattle.tcl_eval.specs.declared.running.End.{End}
 use Rattle.tcl_eval.specs.declared.running.End.TheVariants as end
@@ -67,7 +67,7 @@ unfit t path script limit = first_of (marks_of t).broken (is_some (tree_of t pat
 -- how it ended, as whoever began it is told
 abbrev pub ending_of : End → Ending
 ending_of (end.Done c) = Completed_as (completion_of c)
-ending_of (end.Stopped kind) = Stopped (meter_of kind)
+ending_of (end.Stopped kind) = Stopped (kind_of kind)
 ending_of (end.Exit n) = Exits n
 
 -- how an open run did, where its outside didn't end it
@@ -131,13 +131,16 @@ pub record IsBudgeted {S : Type 0} (step : S → Request → HostReply → S →
   pub budget : KeepsBudget (tree_of old) limit whole.whole.tape (tree_of new)
 
 -- What becomes of counts in a run of at most so many counted steps at the path, however it ends,
--- for want of memory too: none falls of those who stand at the path or above it, nor of any who was
--- in use; and the root's rises by at most so many. (The top of a copied part of a tree is no root,
+-- for want of memory too. None falls of those who stood at the path or above it, nor of any who was
+-- in use, unless it was deleted: of each that stands there still, under its key. The top can't be
+-- deleted. And the root's rises by at most so many. (The top of a copied part of a tree is no root,
 -- and an outside may set its limit in the run. A top stays what it is.)
 pub record KeepsCounts (old : Table) (path : Path) (limit : ℕ) (new : Table) : Type 0 where
-  pub above : (a b : Path) → a ++ b ≡ path → steps_at (tree_of old) a ≤ steps_at (tree_of new) a
-  pub in_use : (q : Path) → InUse (tree_of old) q →
-      steps_at (tree_of old) q ≤ steps_at (tree_of new) q
+  pub above : (a b : Path) (k : ℕ) → a ++ b ≡ path → key_of old a ≡ Some k → key_of new a ≡ Some k →
+      steps_at (tree_of old) a ≤ steps_at (tree_of new) a
+  pub in_use : (q : Path) (k : ℕ) → InUse (tree_of old) q → key_of old q ≡ Some k →
+      key_of new q ≡ Some k → steps_at (tree_of old) q ≤ steps_at (tree_of new) q
+  pub rises : root_count old ≤ root_count new
   pub root : is_root (tree_of old []) ≡ true → root_count new ≤ root_count old + limit
   pub top : is_root (tree_of new []) ≡ is_root (tree_of old [])
 

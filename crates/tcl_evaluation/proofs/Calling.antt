@@ -1,12 +1,13 @@
 -- What calls of procedures come to.
 use Rattle.std.proofs.Common.{◌≡◌, ℕ, true, List, ◌∷◌, Option, Some, None, refl, sym, ◌∙◌, ap, subst}
-use Rattle.std.specs.Prelude.{Result, Ok, Err}
+use Rattle.std.specs.Prelude.{Result, Ok, Err, nat_lt}
 use Rattle.tcl_core.specs.Paths.{Path}
 use Rattle.tcl_core.specs.Runs.{Ending}
 use Rattle.tcl_core.specs.Endings.{Reply, ok, leave_proc}
 use Rattle.tcl_core.specs.Endings.Reply.{Completed, Stop, Exit, Cut}
 use Rattle.tcl_core.specs.Programs.Prog.{done}
-use Rattle.tcl_core.specs.Trees.{Tree, Node, effect}
+use Rattle.tcl_core.specs.Programs.{brought_back}
+use Rattle.tcl_core.specs.Trees.{Tree, Node, depth_of, effect}
 use Rattle.tcl_core.specs.Trees.What.{Changed}
 use Rattle.tcl_flow.specs.View.{completion_of}
 use Rattle.tcl_language.specs.Control.{procedure, call_bound, runs_body, bindings, fit_all, in_frame, out_of_frame, proc_form}
@@ -55,17 +56,17 @@ module _ {S : Type 0} {ways : Ways S} (style : Integers) where
       Proceeds ways (language style) T o q (procedure p name args) T o (Some e)
   call_unbound p name args e none h = at_prog (ap (call_bound p name (name ∷ args)) none) (at_reply h completed)
 
-  bodies_end : {T U V W : Tree Own} {o z : S} {q : Path} {n m : Node Own} (p : ProcedureView) (words : List (List ℕ)) (bs : List (List ℕ × List ℕ)) (e f : Ending) → T q ≡ Some n → U ≡ effect q (Changed (in_frame words bs n.own)) T → V q ≡ Some m → W ≡ effect q (Changed (out_of_frame m.own)) V →
-      Proceeds ways (language style) U o q (script p.body) V z e → Left e f → Proceeds ways (language style) T o q (runs_body p words bs) W z f
-  bodies_end p words bs (Some (Completed c)) (Some f) there u stands w t h = looks there (framed {i = Script p.body} there u stands w t (at_reply h completed))
-  bodies_end {V = V} p words bs (Some (Completed c)) None there u stands w t h = looks there (framed_stopped {V = V} {i = Script p.body} {k = λ c. done (leave_proc c)} there u (given_up_after t unlost))
-  bodies_end p words bs (Some (Stop l x)) f there u stands w t h = at_end h (looks there (framed_passed {i = Script p.body} {k = λ c. done (leave_proc c)} tt there u stands w t))
-  bodies_end p words bs (Some (Exit x)) f there u stands w t h = at_end h (looks there (framed_passed {i = Script p.body} {k = λ c. done (leave_proc c)} tt there u stands w t))
-  bodies_end p words bs (Some (Cut x)) f there u stands w t h = at_end h (looks there (framed_passed {i = Script p.body} {k = λ c. done (leave_proc c)} tt there u stands w t))
-  bodies_end p words bs None f there u stands w t h = at_end h (looks there (framed_passed {i = Script p.body} {k = λ c. done (leave_proc c)} tt there u stands w t))
+  bodies_end : {T U V W : Tree Own} {o z : S} {q : Path} {n : Node Own} (p : ProcedureView) (words : List (List ℕ)) (bs : List (List ℕ × List ℕ)) (e f : Ending) → T q ≡ Some n → U ≡ effect q (Changed (in_frame words bs n.own)) T →
+      W ≡ effect q (brought_back (nat_lt (depth_of (V q)) n.depth) out_of_frame (V q)) V → Proceeds ways (language style) U o q (script p.body) V z e → Left e f → Proceeds ways (language style) T o q (runs_body p words bs) W z f
+  bodies_end p words bs (Some (Completed c)) (Some f) there u w t h = looks there (framed {i = Script p.body} there u w t (at_reply h completed))
+  bodies_end {V = V} p words bs (Some (Completed c)) None there u w t h = looks there (framed_stopped {V = V} {i = Script p.body} {k = λ c. done (leave_proc c)} there u (given_up_after t unlost))
+  bodies_end p words bs (Some (Stop l x)) f there u w t h = at_end h (looks there (framed_passed {i = Script p.body} {k = λ c. done (leave_proc c)} tt there u w t))
+  bodies_end p words bs (Some (Exit x)) f there u w t h = at_end h (looks there (framed_passed {i = Script p.body} {k = λ c. done (leave_proc c)} tt there u w t))
+  bodies_end p words bs (Some (Cut x)) f there u w t h = at_end h (looks there (framed_passed {i = Script p.body} {k = λ c. done (leave_proc c)} tt there u w t))
+  bodies_end p words bs None f there u w t h = at_end h (looks there (framed_passed {i = Script p.body} {k = λ c. done (leave_proc c)} tt there u w t))
 
-  pub call_runs : {T U V W : Tree Own} {o z : S} {q : Path} {n m : Node Own} (p : ProcedureView) (name : List ℕ) (args : List (List ℕ)) (bs : List (List ℕ × List ℕ)) (e f : Ending) → bindings p.parameters args ≡ Some bs → fit_all bs ≡ true →
-      T q ≡ Some n → U ≡ effect q (Changed (in_frame (name ∷ args) bs n.own)) T → V q ≡ Some m → W ≡ effect q (Changed (out_of_frame m.own)) V →
+  pub call_runs : {T U V W : Tree Own} {o z : S} {q : Path} {n : Node Own} (p : ProcedureView) (name : List ℕ) (args : List (List ℕ)) (bs : List (List ℕ × List ℕ)) (e f : Ending) → bindings p.parameters args ≡ Some bs → fit_all bs ≡ true →
+      T q ≡ Some n → U ≡ effect q (Changed (in_frame (name ∷ args) bs n.own)) T → W ≡ effect q (brought_back (nat_lt (depth_of (V q)) n.depth) out_of_frame (V q)) V →
       Proceeds ways (language style) U o q (script p.body) V z e → Left e f → Proceeds ways (language style) T o q (procedure p name args) W z f
-  call_runs p name args bs e f given fit there u stands w t h =
-      at_prog (ap (call_bound p name (name ∷ args)) given ∙ ap (λ b. either b (runs_body p (name ∷ args) bs) (done too_long)) fit) (bodies_end p (name ∷ args) bs e f there u stands w t h)
+  call_runs p name args bs e f given fit there u w t h =
+      at_prog (ap (call_bound p name (name ∷ args)) given ∙ ap (λ b. either b (runs_body p (name ∷ args) bs) (done too_long)) fit) (bodies_end p (name ∷ args) bs e f there u w t h)

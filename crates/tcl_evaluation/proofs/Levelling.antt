@@ -1,12 +1,13 @@
 -- What scripts at another level come to.
 use Rattle.std.proofs.Common.{◌≡◌, ℕ, Bool, true, false, List, [], ◌∷◌, Option, Some, None, ap}
-use Rattle.std.specs.Prelude.{Result, Ok, Err, codes}
+use Rattle.std.specs.Prelude.{Result, Ok, Err, codes, nat_lt}
 use Rattle.tcl_core.specs.Endings.{Reply}
 use Rattle.tcl_core.specs.Endings.Reply.{Completed, Stop, Exit, Cut}
 use Rattle.tcl_core.specs.Runs.{Ending}
 use Rattle.tcl_core.specs.Paths.{Text, Path}
 use Rattle.tcl_core.specs.Programs.Prog.{done}
-use Rattle.tcl_core.specs.Trees.{Tree, Node, effect}
+use Rattle.tcl_core.specs.Programs.{brought_back}
+use Rattle.tcl_core.specs.Trees.{Tree, Node, depth_of, effect}
 use Rattle.tcl_core.specs.Trees.What.{Changed}
 use Rattle.tcl_frames.specs.Places.{current}
 use Rattle.tcl_language.specs.Control.{at_level, inner_script, level_over, script_at, uplevel, uplevel_words}
@@ -67,14 +68,14 @@ module _ {S : Type 0} {ways : Ways S} (style : Integers) where
   pub up_long : {T : Tree Own} {o : S} {p : Path} {r : Reply} (words : List Text) (m : ℕ) → fits (concat words) ≡ false → r ≡ Completed too_long → Proceeds ways (language style) T o p (script_at words m) T o (Some r)
   up_long words m f e = outgrows (concat words) (λ text. look (λ node. inner_script m node.own text)) f e
 
-  aside : {T U V W : Tree Own} {o z : S} {p : Path} {n d : Node Own} {r : Ending} (text : Text) (m : ℕ) → T p ≡ Some n → U ≡ effect p (Changed (at_level m n.own)) T → V p ≡ Some d → W ≡ effect p (Changed (level_over d.own)) V →
+  aside : {T U V W : Tree Own} {o z : S} {p : Path} {n : Node Own} {r : Ending} (text : Text) (m : ℕ) → T p ≡ Some n → U ≡ effect p (Changed (at_level m n.own)) T → W ≡ effect p (brought_back (nat_lt (depth_of (V p)) n.depth) level_over (V p)) V →
       Proceeds ways (language style) U o p (script text) V z r → Proceeds ways (language style) T o p (inner_script m n.own text) W z r
-  aside {r = Some (Completed c)} text m there u stands w t = framed {i = Script text} there u stands w t completed
-  aside {r = Some (Stop l x)} text m there u stands w t = framed_passed {i = Script text} {k = done} tt there u stands w t
-  aside {r = Some (Exit x)} text m there u stands w t = framed_passed {i = Script text} {k = done} tt there u stands w t
-  aside {r = Some (Cut x)} text m there u stands w t = framed_passed {i = Script text} {k = done} tt there u stands w t
-  aside {r = None} text m there u stands w t = framed_passed {i = Script text} {k = done} tt there u stands w t
+  aside {r = Some (Completed c)} text m there u w t = framed {i = Script text} there u w t completed
+  aside {r = Some (Stop l x)} text m there u w t = framed_passed {i = Script text} {k = done} tt there u w t
+  aside {r = Some (Exit x)} text m there u w t = framed_passed {i = Script text} {k = done} tt there u w t
+  aside {r = Some (Cut x)} text m there u w t = framed_passed {i = Script text} {k = done} tt there u w t
+  aside {r = None} text m there u w t = framed_passed {i = Script text} {k = done} tt there u w t
 
-  pub up_runs : {T U V W : Tree Own} {o z : S} {p : Path} {n d : Node Own} {r : Ending} (words : List Text) (m : ℕ) → fits (concat words) ≡ true → T p ≡ Some n → U ≡ effect p (Changed (at_level m n.own)) T → V p ≡ Some d →
-      W ≡ effect p (Changed (level_over d.own)) V → Proceeds ways (language style) U o p (script (concat words)) V z r → Proceeds ways (language style) T o p (script_at words m) W z r
-  up_runs words m f there u stands w t = grows (concat words) (λ text. look (λ node. inner_script m node.own text)) f (looks there (aside (concat words) m there u stands w t))
+  pub up_runs : {T U V W : Tree Own} {o z : S} {p : Path} {n : Node Own} {r : Ending} (words : List Text) (m : ℕ) → fits (concat words) ≡ true → T p ≡ Some n → U ≡ effect p (Changed (at_level m n.own)) T →
+      W ≡ effect p (brought_back (nat_lt (depth_of (V p)) n.depth) level_over (V p)) V → Proceeds ways (language style) U o p (script (concat words)) V z r → Proceeds ways (language style) T o p (script_at words m) W z r
+  up_runs words m f there u w t = grows (concat words) (λ text. look (λ node. inner_script m node.own text)) f (looks there (aside (concat words) m there u w t))

@@ -11,6 +11,7 @@ mod Levelling
 mod Looping
 mod Plainly
 mod Requesting
+mod Staying
 pub mod Steps
 mod Targets
 mod Walking

@@ -6,6 +6,7 @@ use Rattle.tcl_core.specs.Endings.Reply.{Completed, Stop, Exit, Cut}
 use Rattle.tcl_core.specs.Entries.{HostReply, Request}
 use Rattle.tcl_core.specs.Entries.Entry.{AskHost}
 use Rattle.tcl_core.specs.Execution.{event}
+use Rattle.tcl_core.specs.Programs.{or_lost}
 use Rattle.tcl_core.specs.Paths.{Path, Text}
 use Rattle.tcl_core.specs.Runs.{Ending}
 use Rattle.tcl_core.specs.Trees.{Tree}
@@ -22,7 +23,7 @@ use Rattle.tcl_language_laws.specs.Language.{language}
 use Rattle.tcl_run.specs.Ends.{Breaks, IfRan, Interrupts}
 use Rattle.tcl_run.specs.Outsides.{reply_of}
 use Rattle.tcl_run.specs.Plain.{Acts, Does}
-use Rattle.tcl_run.specs.Runs.{IsAt, IsSteady, IsThere, Proceeds, ProceedsIn, Ways}
+use Rattle.tcl_run.specs.Runs.{IsAt, IsHere, IsThere, Proceeds, ProceedsIn, Ways}
 use Rattle.tcl_run.specs.declared.interruption.Interruption.{Interruption}
 use Rattle.tcl_run.specs.declared.interruption.Interruption.TheVariants as interruption
 use Rattle.tcl_run.proofs.Endings.{Breaks-more, IfRan-more, breaks, fails_err, ran, ran_err}
@@ -38,7 +39,7 @@ use Rattle.tcl_calls.specs.declared.host_calls.HostCall.{HostCall}
 use Rattle.tcl_calls.specs.declared.host_calls.HostCall.TheVariants as call
 use Rattle.tcl_evaluation.specs.Requests.{EndsAsking, Hears, HearsOn, ReadsScript}
 use Rattle.tcl_evaluation.specs.View.{Leads}
-use Rattle.tcl_evaluation.specs.Waiting.{EndsWait, HearsSo, Wherever}
+use Rattle.tcl_evaluation.specs.Waiting.{EndsWait, HearsSo, Wherever, depth_there}
 use Rattle.tcl_evaluation.proofs.Awaited.{ends_out}
 use Rattle.tcl_evaluation.proofs.Steps.{EndsFrom}
 
@@ -47,8 +48,8 @@ use Rattle.tcl_evaluation.proofs.Steps.{EndsFrom}
 module _ {S : Type 0} (ways : Ways S) (old new : Table) (o u z : S) (place : TablePlace) (q : Request)
     (leaves : (p : Path) → Names old place p → ways.goes (tree_of old) o None (event p (Out None [] (AskHost q))) u) where
   -- it is answered by this reply
-  pub asks_heard : (reply : HostReply) → Wherever old place (λ p style. HearsSo ways style (tree_of old) u p None (AskHost q) (tree_of new) z reply) → HearsOn ways old o place q new z reply
-  asks_heard reply hears = λ p style at k V w e t. calls_out refl (leaves p at.names) (hears p style at (heard k) V w e t)
+  pub asks_heard : (reply : HostReply) → Wherever old place (λ p style. HearsSo ways style (tree_of old) u p None (AskHost q) (depth_there old p) (tree_of new) z reply) → HearsOn ways old o place q new z reply
+  asks_heard reply hears = λ p style at k V w e t. calls_out refl (leaves p at.names) (hears p style at (or_lost (ok []) (heard k)) V w e t)
 
   -- it ended otherwise, or was given up
   pub asks_over : (result : Result TheirReply Interruption) (i y : Interruption) → result ≡ Err y → y ≡ i → Breaks i (EndsWait ways old u place None (AskHost q) new z) → Hears ways old o place q new z result
@@ -80,23 +81,23 @@ module _ {S : Type 0} (ways : Ways S) (old mid new : Table) (o u : S) (place : T
       (EndsFrom ways old o place (λ style. meaning_of c) mid u) is eq ends (λ e h p style at. at_prog (made_is c q same) (h p style at (heard_by c)))
 
   -- what its reply is
-  pub call_answered : (c : HostCall) (q : Request) (reply : HostReply) (result : Result Text Interruption) → q ≡ request_by c → HearsOn ways old o place q mid u reply → IsSteady old mid → Acts mid place (λ style. heard_by c reply) new result →
+  pub call_answered : (c : HostCall) (q : Request) (reply : HostReply) (result : Result Text Interruption) → q ≡ request_by c → HearsOn ways old o place q mid u reply → IsHere old mid place → Acts mid place (λ style. heard_by c reply) new result →
       ProceedsIn ways old o place (λ style. meaning_of c) new u result
-  call_answered c q reply result same hears steady acts =
+  call_answered c q reply result same hears stays acts =
       ran result (λ e. (p : Path) (style : Integers) → IsThere mid place p style → Does (heard_by c reply) (tree_of mid) p (tree_of new) e) (EndsFrom ways old o place (λ style. meaning_of c) new u)
-      (λ e h p style at. let after = still_at old mid place p style steady at in
+      (λ e h p style at. let after = still_at old mid place p style stays at in
       at_prog (made_is c q same) (hears p style at (heard_by c) _ _ _ (does_proceeds (heard_by c reply) u (h p style (record { names = after.names; style_is = after.style_is })))))
       (λ p style at. at_prog (made_is c q same) (hears p style at (heard_by c) (tree_of new) u None stopped)) acts
 
 -- ## The script of a file
 
 -- what was read from later is read from here
-pub reads_after : {S : Type 0} (ways : Ways S) (old mid new : Table) (o u z : S) (place : TablePlace) (x y : Program) (result : Result Text Interruption) → Wherever old place (λ p style. Leads ways style (tree_of old) o p x (tree_of mid) u y) → IsSteady old mid →
+pub reads_after : {S : Type 0} (ways : Ways S) (old mid new : Table) (o u z : S) (place : TablePlace) (x y : Program) (result : Result Text Interruption) → Wherever old place (λ p style. Leads ways style (tree_of old) o p x (tree_of mid) u y) → IsHere old mid place →
     ReadsScript ways mid u place y new z result → ReadsScript ways old o place x new z result
-reads_after ways old mid new o u z place x y (Ok text) leads steady reads = λ p style at V w e t. leads p style at V w e (reads p style (still_at old mid place p style steady at) V w e t)
-reads_after ways old mid new o u z place x y (Err i) leads steady reads =
+reads_after ways old mid new o u z place x y (Ok text) leads stays reads = λ p style at V w e t. leads p style at V w e (reads p style (still_at old mid place p style stays at) V w e t)
+reads_after ways old mid new o u z place x y (Err i) leads stays reads =
     Breaks-more i (λ e. Wherever mid place (λ p style. Proceeds ways (language style) (tree_of mid) u p y (tree_of new) z e)) (λ e. Wherever old place (λ p style. Proceeds ways (language style) (tree_of old) o p x (tree_of new) z e))
-    (λ e h p style at. leads p style at _ _ _ (h p style (still_at old mid place p style steady at))) reads
+    (λ e h p style at. leads p style at _ _ _ (h p style (still_at old mid place p style stays at))) reads
 
 module _ {S : Type 0} (ways : Ways S) (old mid new : Table) (o u z : S) (place : TablePlace) where
   -- a program that is over behind another
@@ -117,17 +118,17 @@ module _ {S : Type 0} (ways : Ways S) (old mid new : Table) (o u z : S) (place :
   reads_heard x q k reply eq hears = λ p style at V w e t. at_prog eq (hears p style at k V w e t)
 
   -- and with that to a second one
-  pub heard_twice : (x : Program) (q r : Request) (k : HostReply → HostReply → Program) (first second : HostReply) → x ≡ asks q (λ a. asks r (k a)) → HearsOn ways old o place q mid u first → IsSteady old mid → HearsOn ways mid u place r new z second →
+  pub heard_twice : (x : Program) (q r : Request) (k : HostReply → HostReply → Program) (first second : HostReply) → x ≡ asks q (λ a. asks r (k a)) → HearsOn ways old o place q mid u first → IsHere old mid place → HearsOn ways mid u place r new z second →
       Wherever old place (λ p style. Leads ways style (tree_of old) o p x (tree_of new) z (k first second))
-  heard_twice x q r k first second eq hears steady again = λ p style at V w e t.
-      at_prog eq (hears p style at (λ a. asks r (k a)) V w e (again p style (still_at old mid place p style steady at) (k first) V w e t))
+  heard_twice x q r k first second eq hears stays again = λ p style at V w e t.
+      at_prog eq (hears p style at (λ a. asks r (k a)) V w e (again p style (still_at old mid place p style stays at) (k first) V w e t))
 
-  pub heard_once : (x : Program) (q r : Request) (k : HostReply → HostReply → Program) (first : HostReply) (result : Result Text Interruption) (i j : Interruption) → x ≡ asks q (λ a. asks r (k a)) → HearsOn ways old o place q mid u first → IsSteady old mid →
+  pub heard_once : (x : Program) (q r : Request) (k : HostReply → HostReply → Program) (first : HostReply) (result : Result Text Interruption) (i j : Interruption) → x ≡ asks q (λ a. asks r (k a)) → HearsOn ways old o place q mid u first → IsHere old mid place →
       result ≡ Err j → j ≡ i → Breaks i (EndsAsking ways mid u place r new z) → ReadsScript ways old o place x new z result
-  heard_once x q r k first result i j eq hears steady is same ends =
+  heard_once x q r k first result i j eq hears stays is same ends =
       ran_err result i j (λ text. Wherever old place (λ p style. Leads ways style (tree_of old) o p x (tree_of new) z (evaluates_file text))) (EndsAsking ways mid u place r new z)
       (λ e. Wherever old place (λ p style. Proceeds ways (language style) (tree_of old) o p x (tree_of new) z e)) is same ends
-      (λ e h p style at. at_prog eq (hears p style at (λ a. asks r (k a)) _ _ _ (h p style (still_at old mid place p style steady at) (k first))))
+      (λ e h p style at. at_prog eq (hears p style at (λ a. asks r (k a)) _ _ _ (h p style (still_at old mid place p style stays at) (k first))))
 
 -- what was read is a script, or is refused
 pub script_is : {S : Type 0} (ways : Ways S) (old new : Table) (o z : S) (place : TablePlace) (x y : Program) (result : Result Text Interruption) → Wherever old place (λ p style. Leads ways style (tree_of old) o p x (tree_of new) z y) → IsScript y result → ReadsScript ways old o place x new z result
@@ -136,10 +137,10 @@ script_is ways old new o z place x y (Err i) leads is =
     breaks i (IsOver y) (λ e. Wherever old place (λ p style. Proceeds ways (language style) (tree_of old) o p x (tree_of new) z e)) (λ e h p style at. leads p style at _ _ _ (does_proceeds y z (h (tree_of new) p))) (λ p style at. leads p style at _ _ _ stopped) is
 
 -- the script that was read is evaluated
-pub script_goes : {S : Type 0} (ways : Ways S) (old mid new : Table) (o u z : S) (place : TablePlace) (x : Program) (text : Text) (result : Result Text Interruption) → Wherever old place (λ p style. Leads ways style (tree_of old) o p x (tree_of mid) u (evaluates_file text)) → IsSteady old mid →
+pub script_goes : {S : Type 0} (ways : Ways S) (old mid new : Table) (o u z : S) (place : TablePlace) (x : Program) (text : Text) (result : Result Text Interruption) → Wherever old place (λ p style. Leads ways style (tree_of old) o p x (tree_of mid) u (evaluates_file text)) → IsHere old mid place →
     ProceedsIn ways mid u place (λ style. evaluates_file text) new z result → ProceedsIn ways old o place (λ style. x) new z result
-script_goes ways old mid new o u z place x text result leads steady runs =
-    IfRan-more result (EndsFrom ways mid u place (λ style. evaluates_file text) new z) (EndsFrom ways old o place (λ style. x) new z) (λ e h p style at. leads p style at _ _ _ (h p style (still_at old mid place p style steady at))) runs
+script_goes ways old mid new o u z place x text result leads stays runs =
+    IfRan-more result (EndsFrom ways mid u place (λ style. evaluates_file text) new z) (EndsFrom ways old o place (λ style. x) new z) (λ e h p style at. leads p style at _ _ _ (h p style (still_at old mid place p style stays at))) runs
 
 -- no other words than one name a file
 pub not_sourced : (xs : List Text) → (length xs < 1) ⊎ (2 ≤ length xs) → source xs ≡ fails (wrong_args (codes "source name"))

@@ -1,7 +1,7 @@
 -- What evaluations come to that others ask for.
-use Rattle.std.proofs.Common.{◌≡◌, ℕ, List, [], ◌++◌, Some, None, refl, sym, ◌∙◌, ap, subst}
+use Rattle.std.proofs.Common.{◌≡◌, ℕ, Bool, List, [], ◌++◌, Some, None, refl, sym, ◌∙◌, ap, subst}
 use Rattle.std.specs.Prelude.{Result, Ok, Err}
-use Rattle.tcl_core.specs.Runs.{Ending, carried}
+use Rattle.tcl_core.specs.Runs.{Ending, returned}
 use Rattle.tcl_core.specs.Paths.{Text, Path, Place, rise_to}
 use Rattle.tcl_core.specs.Endings.{Completion, Reply, error, ok, settle}
 use Rattle.tcl_core.specs.Endings.Reply.{Completed, Stop, Exit, Cut}
@@ -9,7 +9,7 @@ use Rattle.tcl_core.specs.Entries.{Entry}
 use Rattle.tcl_core.specs.Entries.Entry.{Eval, CallWords}
 use Rattle.tcl_core.specs.Programs.{blocked, is_deep}
 use Rattle.tcl_core.specs.Programs.Prog.{done, go}
-use Rattle.tcl_core.specs.Trees.{Tree, Node, effect}
+use Rattle.tcl_core.specs.Trees.{Tree, Node, depth_of, effect}
 use Rattle.tcl_core.specs.Trees.What.{Nested, Unnested}
 use Rattle.tcl_flow.specs.Stopping as stopping
 use Rattle.tcl_flow.specs.View.{completion_of}
@@ -20,7 +20,7 @@ use Rattle.tcl_language.specs.Interpreters.{call_alias, no_interpreter}
 use Rattle.tcl_language_laws.specs.Language.{language}
 use Rattle.tcl_language.specs.Scripts.{script}
 use Rattle.tcl_language.specs.Faults.{invalid_command, invalid_hidden}
-use Rattle.tcl_language.specs.Table.{called, dispatch, invoked, program, serve, some_words}
+use Rattle.tcl_language.specs.Table.{called, dispatch, hidden_at, program, serve, some_words}
 use Rattle.tcl_interpreter.specs.declared.command.Command.{Command}
 use Rattle.tcl_interpreter.specs.declared.command.Command.TheVariants as command
 use Rattle.tcl_run.specs.declared.interruption.Interruption.{Interruption}
@@ -30,10 +30,11 @@ use Rattle.tcl_run.specs.Outsides.{Enters, Misses, Returns}
 use Rattle.tcl_run.specs.Runs.{Counts, IsAt, IsLoss, IsSteady, IsThere, Proceeds, ProceedsAt, ProceedsIn, RefusesStep, Ways}
 use Rattle.tcl_run.proofs.Endings.{IfEnded-both, IfEnded-more, IfRan-more, ended_so, memory_err, ran}
 use Rattle.tcl_run.proofs.Proceeding.{at_end, at_finish, at_prog, at_reply, calls_lost, calls_on, calls_passed, charges, charge_refused, completed, finds_none, finds_none_on, goes_on, goes_done, nests_done, nest_refused, passed, stopped, stopped_by}
-use Rattle.tcl_run.proofs.Steady.{stands, still_at}
+use Rattle.tcl_run.proofs.Steady.{stands, steady_holds}
 use Rattle.tcl_text.specs.declared.integer.Integers.{Integers}
 use Rattle.tcl_tree.proofs.CoreLemmas.{tree_there}
 use Rattle.tcl_tree.specs.Commands.{AliasView}
+use Rattle.tcl_tree.specs.Gone.{Holds}
 use Rattle.tcl_tree.specs.Own.{Own}
 use Rattle.tcl_tree.specs.Reaching.{Leads as Reached}
 use Rattle.tcl_tree.specs.TreeOf.{tree_of, Names}
@@ -44,7 +45,7 @@ use Rattle.tcl_calls.specs.Carrying.{ComesBack, EndedBy, Settles}
 use Rattle.tcl_entries.specs.Asking.{asks_below}
 use Rattle.tcl_entries.proofs.Carried.{ended_by}
 use Rattle.tcl_evaluation.specs.View.{AsksBelow, GoesOn, targeted, unhidden}
-use Rattle.tcl_evaluation.specs.Waiting.{CallsOut, CallsThere, FindsNobody, calls}
+use Rattle.tcl_evaluation.specs.Waiting.{CallsThere, FindsNobody, calls}
 
 -- what there is is done, whatever is told where there is none
 pub same_dispatch : (style : Integers) (word : Text) (args : List Text) (c : Command) → dispatch style word args invalid_hidden (Some c) ≡ dispatch style word args invalid_command (Some c)
@@ -89,12 +90,12 @@ module _ {S : Type 0} {ways : Ways S} (style : Integers) where
   pub target_refused : {T U : Tree Own} {o : S} {p : Path} {r : Reply} (words : List Text) (n : ℕ) → blocked is_deep T p ≡ Some n → U ≡ T → r ≡ too_deep_at n → Proceeds ways (language style) T o p (targeted words) U o (Some r)
   target_refused words n full same e = at_finish same (at_reply e (nest_refused {i = Call words} n full))
 
-  pub unhidden_ends : {T U V W : Tree Own} {o z : S} {p : Path} {r : Ending} (words : List Text) → blocked is_deep T p ≡ None → U ≡ effect p Nested T → W ≡ effect p Unnested V →
-      Proceeds ways (language style) U o p (invoked style words) V z r → Proceeds ways (language style) T o p (unhidden words) W z r
-  unhidden_ends words free e f t = nests_done {i = Hidden words} free e f t
+  pub unhidden_ends : {T U V W : Tree Own} {o z : S} {p : Path} {r : Ending} (g : Bool) (words : List Text) → blocked is_deep T p ≡ None → U ≡ effect p Nested T → W ≡ effect p Unnested V →
+      Proceeds ways (language style) U o p (hidden_at style g words) V z r → Proceeds ways (language style) T o p (unhidden g words) W z r
+  unhidden_ends g words free e f t = nests_done {i = Hidden g words} free e f t
 
-  pub unhidden_refused : {T U : Tree Own} {o : S} {p : Path} {r : Reply} (words : List Text) (n : ℕ) → blocked is_deep T p ≡ Some n → U ≡ T → r ≡ too_deep_at n → Proceeds ways (language style) T o p (unhidden words) U o (Some r)
-  unhidden_refused words n full same e = at_finish same (at_reply e (nest_refused {i = Hidden words} n full))
+  pub unhidden_refused : {T U : Tree Own} {o : S} {p : Path} {r : Reply} (g : Bool) (words : List Text) (n : ℕ) → blocked is_deep T p ≡ Some n → U ≡ T → r ≡ too_deep_at n → Proceeds ways (language style) T o p (unhidden g words) U o (Some r)
+  unhidden_refused g words n full same e = at_finish same (at_reply e (nest_refused {i = Hidden g words} n full))
 
   pub entry_stops : {T U : Tree Own} {o z : S} {p : Path} {r : Reply} (words : List Text) → RefusesStep ways.goes T o p U z r → Proceeds ways (language style) T o p (serve style (CallWords words)) U z (Some r)
   entry_stops words s = charge_refused s
@@ -152,7 +153,7 @@ module _ {S : Type 0} (ways : Ways S) (style : Integers) where
 
   -- a call of the interpreter so many levels up and these names down, which was told the end that came of it
   pub call_goes : {T U : Tree Own} {o u v w : S} {m : Node Own} {s : Reply} (p : Place) (n : ℕ) (down : Path) (i : Entry) (lost : Completion) (a : Place) (r : Reply) → rise_to (Some n) p ≡ Some a → T (a ++ down) ≡ Some m →
-      Enters ways.goes T o p n a down i u → Proceeds ways (language style) T u (a ++ down) (serve style i) U v (Some s) → r ≡ carried (Some n) p down s → Returns ways.goes U v p n a down s r w → GoesOn ways style T o p (calls n down i lost) U w (Some r)
+      Enters ways.goes T o p n a down i u → Proceeds ways (language style) T u (a ++ down) (serve style i) U v (Some s) → r ≡ returned T U (Some n) p down s → Returns ways.goes U v p n a down s r w → GoesOn ways style T o p (calls n down i lost) U w (Some r)
   call_goes {U = U} {v = v} {w} {s = s} p n down i lost a (Completed c) e there x t f y = λ k V z r g. calls_on a e there x t (sym f) (subst (λ (l : Reply). Returns ways.goes U v p n a down s l w) f y) g
   call_goes p n down i lost a (Stop l k) e there x t f y = λ h. calls_passed a e there x t (sym f) tt y
   call_goes p n down i lost a (Exit l) e there x t f y = λ k. calls_passed a e there x t (sym f) tt y
@@ -170,13 +171,13 @@ module _ {S : Type 0} (ways : Ways S) (old new : Table) (o : S) (place : TablePl
   -- where somebody stands, whose program came to that end, of which the outside was told; or it was given up, or its end was lost
   pub calls_there : (u v w : S) (there : TablePlace) (ended : Result Text Interruption) → ((p : Path) → Names old place p → Reached old p up down (reach.There there)) →
       ((p a : Path) → Names old place p → rise_to (Some up) p ≡ Some a → Enters ways.goes (tree_of old) o p up a down i u) → ProceedsAt ways old u there (λ style. serve style i) new v ended →
-      IfEnded result (λ r. (p a : Path) → Names new place p → rise_to (Some up) p ≡ Some a → ComesBack ways.goes (tree_of new) v p up a down ended r w) → IsLoss ways.loses v w → IsSteady old new → CallsThere ways old o place up down i new w result
-  calls_there u v w there ended leads enters runs comes loses steady = ran result (λ r. (p a : Path) → Names new place p → rise_to (Some up) p ≡ Some a → ComesBack ways.goes (tree_of new) v p up a down ended r w)
+      IfEnded result (λ r. (p a : Path) (d : ℕ) → Holds new place p d → rise_to (Some up) p ≡ Some a → ComesBack ways.goes (tree_of new) v p d up a down ended r w) → IsLoss ways.loses v w → IsSteady old new → CallsThere ways old o place up down i new w result
+  calls_there u v w there ended leads enters runs comes loses steady = ran result (λ r. (p a : Path) (d : ℕ) → Holds new place p d → rise_to (Some up) p ≡ Some a → ComesBack ways.goes (tree_of new) v p d up a down ended r w)
       (λ e. (p : Path) (style : Integers) → IsAt old place p style → (lost : Completion) → GoesOn ways style (tree_of old) o p (calls up down i lost) (tree_of new) w e)
       (λ r back p style at lost.
       let lead = leads p at.names in
       let m = stands (tree_of old (lead.0 ++ down)) (tree_there old (lead.0 ++ down) _ lead.2) in
-      let told = back p lead.0 (still_at old new place p style steady at).names lead.1 in
+      let told = back p lead.0 (depth_of (tree_of old p)) (steady_holds old new place p steady at.names at.running) lead.1 in
       call_goes ways style p up down i lost lead.0 r lead.1 m.1 (enters p lead.0 at.names lead.1)
       (ended_by ended told.reply (λ s. (q : Path) (z : Integers) → IsThere old there q z → Proceeds ways (language z) (tree_of old) u q (serve z i) (tree_of new) v (Some s)) told.ended_so
       (ended_so ended (λ e. (q : Path) (z : Integers) → IsThere old there q z → Proceeds ways (language z) (tree_of old) u q (serve z i) (tree_of new) v e) runs) (lead.0 ++ down) style
@@ -227,12 +228,6 @@ asks_nobody ways old o u place path entry result leads told misses loses = ran r
     (λ e f miss p style at.
     let lead = leads p at.names in
     lost_goes ways style (tree_of old) o u p 0 path entry (error (no_interpreter [])) lead.0 e lead.1 lead.2 f (miss p lead.0 at.names lead.1)) told misses)
-
--- past the top
-pub calls_past : {S : Type 0} (ways : Ways S) (old new : Table) (o z : S) (place : TablePlace) (up : ℕ) (down : Path) (i : Entry) (result : Result Text Interruption) (lost : Completion) → CallsOut ways old o place (Some up) down i new z result →
-    ProceedsIn ways old o place (λ style. calls up down i lost done) new z result
-calls_past ways old new o z place up down i result lost h = IfRan-more result (λ e. (p : Path) (style : Integers) → IsAt old place p style → (lost : Completion) → Proceeds ways (language style) (tree_of old) o p (calls up down i lost done) (tree_of new) z e)
-    (λ e. (p : Path) (style : Integers) → IsAt old place p style → Proceeds ways (language style) (tree_of old) o p (calls up down i lost done) (tree_of new) z e) (λ e f p style at. f p style at lost) h
 
 -- how it is told that nobody was found
 pub lost_so : (i : Interruption) (result : Result Text Interruption) (P : Reply → Type 0) → Interrupts i P → IfEnded result (EndedBy (Err i)) → IfEnded result P

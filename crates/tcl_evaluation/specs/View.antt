@@ -1,28 +1,27 @@
 -- What contracts see of words that are put together.
-use Rattle.std.specs.Prelude.{◌≡◌, Some, ℕ, Bool, true, false, List, [], ◌∷◌, Result, Ok, Err}
+use Rattle.std.specs.Prelude.{◌≡◌, Some, ℕ, Bool, List, [], ◌∷◌, Result, Ok, Err}
 use Rattle.tcl_core.specs.Paths.{Path}
 use Rattle.tcl_core.specs.Trees.{Tree}
 use Rattle.tcl_core.specs.Endings.{Completion}
 use Rattle.tcl_core.specs.Runs.{Ending}
 use Rattle.tcl_core.specs.Endings.Reply.{Completed}
-use Rattle.tcl_core.specs.Programs.Prog.{done, go, inside}
-use Rattle.tcl_core.specs.Programs.Wrap.{Deeper, Framed}
-use Rattle.tcl_language.specs.Instructions.Instr.{Commands, Call, Hidden, Invoke}
+use Rattle.tcl_core.specs.Programs.Prog.{done, inside}
+use Rattle.tcl_core.specs.Programs.Wrap.{Deeper}
+use Rattle.tcl_language.specs.Instructions.Instr.{Commands, Call, Hidden}
 use Rattle.tcl_parser.specs.Words.{Reading}
 use Rattle.tcl_core.specs.Endings.{leave_proc}
 use Rattle.tcl_flow.specs.View.{completion_of}
 use Rattle.tcl_run.specs.Ends.{IfEnded, IfRan}
 use Rattle.tcl_run.specs.declared.interruption.Interruption.{Interruption}
 use Rattle.tcl_run.specs.declared.interruption.Interruption.TheVariants as interruption
-use Rattle.tcl_language.specs.Instructions.{Program, Open, look}
+use Rattle.tcl_language.specs.Instructions.{Program, Open}
 use Rattle.tcl_language_laws.specs.Language.{language}
 use Rattle.tcl_language.specs.Scripts.{parts}
-use Rattle.tcl_language.specs.Control.{at_level, level_over}
 use Rattle.tcl_core.specs.Entries.{Entry}
 use Rattle.tcl_entries.specs.Asking.{asks_below}
 use Rattle.tcl_language.specs.Interpreters.{asks_at}
 use Rattle.tcl_parser.specs.declared.script.Part.{Part}
-use Rattle.tcl_run.specs.Runs.{IsAt, IsThere, Proceeds, Ways}
+use Rattle.tcl_run.specs.Runs.{IsAt, Proceeds, Ways}
 use Rattle.tcl_text.specs.declared.integer.Integers.{Integers}
 use Rattle.tcl_tree.specs.Own.{Own}
 use Rattle.tcl_tree.specs.TreeOf.{tree_of}
@@ -37,14 +36,9 @@ read_so script = inside Deeper (Commands script.commands script.fault []) done
 abbrev pub targeted : List (List ℕ) → Program
 targeted words = inside Deeper (Call words) done
 
--- and one that is hidden
-abbrev pub unhidden : List (List ℕ) → Program
-unhidden words = inside Deeper (Hidden words) done
-
--- it is called at level 0 where that is asked for, and on
-abbrev pub invokes_at : Bool → List (List ℕ) → (Completion → Program) → Program
-invokes_at true words k = look (λ n. inside (Framed (at_level 0 n.own) level_over) (Invoke words) k)
-invokes_at false words k = go (Invoke words) k
+-- and one that is hidden, at level 0 where that is asked for
+abbrev pub unhidden : Bool → List (List ℕ) → Program
+unhidden is_global words = inside Deeper (Hidden is_global words) done
 
 -- How far something came, of which a program is told that it completed: the program goes on, or it
 -- ends so too, or is given up.
@@ -70,12 +64,6 @@ abbrev pub AsksBelow : {S : Type 0} → Ways S → Table → S → Place → Pat
 AsksBelow ways old o place path entry new z result = IfRan result
     (λ e. (p : Path) (style : Integers) → IsAt old place p style →
     GoesOn ways style (tree_of old) o p (asks_below path entry) (tree_of new) z e)
-
-abbrev pub Invokes : {S : Type 0} → Ways S → Table → S → Place → Bool → List (List ℕ) → Table → S →
-    Result (List ℕ) Interruption → Type 0
-Invokes ways old o place is_global words new z result =
-    IfRan result (λ e. (p : Path) (style : Integers) → IsThere old place p style →
-    GoesOn ways style (tree_of old) o p (invokes_at is_global words) (tree_of new) z e)
 
 -- One part of a word was substituted: the rest of its parts go on from there.
 abbrev pub PartGoes : {S : Type 0} → Ways S → Table → S → Place → Part → List Open → List ℕ →

@@ -6,15 +6,15 @@ ghost use Rattle.tcl_core.specs.Paths.{Path, rise_to};
 ghost use Rattle.tcl_language.specs.Faults as faults;
 ghost use Rattle.tcl_language.specs.Interpreters.{call_alias as alias_program};
 ghost use Rattle.tcl_language.specs.Table as table;
-ghost use Rattle.tcl_run.specs.Ends.{IfEnded, failing};
+ghost use Rattle.tcl_run.specs.Ends.{IfEnded, Interrupts, OnCompletion, failing};
 ghost use Rattle.tcl_run.specs.Entering.{whole_entry};
-ghost use Rattle.tcl_run.specs.Runs.{IsHeld, IsLoss, IsRunning, Keeps, ProceedsAt, ProceedsIn};
-ghost use Rattle.tcl_run.specs.Runs.{ways};
+ghost use Rattle.tcl_run.specs.Runs.{IsHeld, IsHere, IsLoss, IsRunning, Keeps, ProceedsAt};
+ghost use Rattle.tcl_run.specs.Runs.{ProceedsIn, ways};
 ghost use Rattle.tcl_tree.specs.Reaching.{Leads};
 ghost use Rattle.tcl_tree.specs.TreeOf.{Names};
 ghost use Rattle.tcl_tree.specs.declared.tree.places.Reach.TheVariants.{There};
 ghost use Rattle.tcl_calls.specs.Carrying.{EndedBy};
-ghost use Rattle.tcl_evaluation.specs.View.{Asks, AsksBelow, Invokes, targeted, unhidden};
+ghost use Rattle.tcl_evaluation.specs.View.{Asks, AsksBelow, targeted, unhidden};
 ghost use Rattle.tcl_evaluation.specs.Waiting.{CallsOut, CallsThere, FindsNobody};
 
 use crate::commands::{call, call_hidden};
@@ -51,6 +51,7 @@ pub fn call_alias<O: Outside>(
     requires { IsRunning tree.old place }
     ensures runs { ProceedsIn (ways O.goes O.loses) tree.old outside.old place
         (λ style. alias_program alias.now word.now args.now) tree.new outside.new result }
+    ensures here { OnCompletion result (IsHere tree.old tree.new place) }
     ensures keeps { Keeps O.entries_left tree.old tree.new outside.old outside.new }
 {
     let entry = Entry::of_alias(alloc, alias.words(), args)?;
@@ -59,7 +60,17 @@ pub fn call_alias<O: Outside>(
     match tree.reach(place, up, down) {
         Reach::There(target) => { call_there(tree, alloc, outside, place, up, down, target, entry) }
         Reach::Missing => miss_alias(tree, alloc, outside, place, up, down, entry, word),
-        Reach::Outside => call_past_top(tree, alloc, outside, place, up, down, entry),
+        Reach::Outside => call_past_top(tree, alloc, outside, place, up, down, entry, word),
+    }
+}
+
+/// The error of an alias, which was called by this word, whose target isn't there.
+fn lost_call(alloc: Global, word: &Value) -> Interruption
+    ensures { Interrupts result (λ e. e ≡ Completed (failing (faults.lost_alias word.now))) }
+{
+    match word.text(alloc) {
+        Ok(text) => lost_alias(alloc, text.as_str()),
+        Err(_) => Interruption::Memory,
     }
 }
 
@@ -83,7 +94,7 @@ fn miss_alias<O: Outside>(
     ensures lost { IsLoss O.loses outside.old outside.new }
     ensures left { O.entries_left outside.new ≤ O.entries_left outside.old }
 {
-    let lost = lost_alias(alloc, word.text(alloc)?.as_str());
+    let lost = lost_call(alloc, word);
     find_nobody(tree, alloc, outside, place, up, down, entry, lost)
 }
 
@@ -140,6 +151,7 @@ fn call_there<O: Outside>(
     ensures runs { CallsThere (ways O.goes O.loses) tree.old outside.old caller up down.now
         (whole_entry entry)
         tree.new outside.new result }
+    ensures here { OnCompletion result (IsHere tree.old tree.new caller) }
     ensures keeps { Keeps O.entries_left tree.old tree.new outside.old outside.new }
 {
     let happening = Happening::Entered {
@@ -153,7 +165,8 @@ fn call_there<O: Outside>(
     return_to_caller(tree, alloc, outside, caller, up, down, ended)
 }
 
-/// Calls an interpreter above the tree, or below one that is, and waits for its answer.
+/// Calls an interpreter above the tree, or below one that is, for an alias that was called by this
+/// word, and waits for its answer.
 #[cycle(eval)]
 #[inline(never)]
 fn call_past_top<O: Outside>(
@@ -164,11 +177,13 @@ fn call_past_top<O: Outside>(
     up: usize,
     down: &[Text],
     entry: Entry,
+    word: &Value,
 ) -> Result<Value, Interruption>
     requires running { IsRunning tree.old caller }
     requires above { (p : Path) → Names tree.old caller p → rise_to (Some up) p ≡ None }
     ensures runs { CallsOut (ways O.goes O.loses) tree.old outside.old caller (Some up) down.now
-        (whole_entry entry) tree.new outside.new result }
+        (whole_entry entry) (failing (faults.lost_alias word.now)) tree.new outside.new result }
+    ensures here { OnCompletion result (IsHere tree.old tree.new caller) }
     ensures keeps { Keeps O.entries_left tree.old tree.new outside.old outside.new }
 {
     let happening = Happening::PassedTop {
@@ -180,6 +195,7 @@ fn call_past_top<O: Outside>(
     outside.notify(alloc, tree, happening)?;
     match wait(tree, alloc, outside, caller, Some(up), &entry)? {
         Said::Completed(value) => Ok(value),
+        Said::Missed => Err(lost_call(alloc, word)),
         Said::Heard(_) => unreachable!(),
     }
 }
@@ -201,6 +217,7 @@ pub fn serve_entry<O: Outside>(
     requires { (p : Path) × Names tree.old place p }
     ensures runs { ProceedsAt (ways O.goes O.loses) tree.old outside.old place
         (λ style. table.serve style (whole_entry entry)) tree.new outside.new result }
+    ensures here { OnCompletion result (IsHere tree.old tree.new place) }
     ensures keeps { Keeps O.entries_left tree.old tree.new outside.old outside.new }
 {
     match entry {
@@ -227,6 +244,7 @@ pub fn serve_call<O: Outside>(
     requires { (p : Path) × Names tree.old place p }
     ensures runs { ProceedsAt (ways O.goes O.loses) tree.old outside.old place
         (λ style. table.serve style (CallWords words.items)) tree.new outside.new result }
+    ensures here { OnCompletion result (IsHere tree.old tree.new place) }
     ensures keeps { Keeps O.entries_left tree.old tree.new outside.old outside.new }
 {
     let words = some_words(words)?;
@@ -247,6 +265,7 @@ fn call_target<O: Outside>(
     requires { (p : Path) × Names tree.old place p }
     ensures runs { ProceedsAt (ways O.goes O.loses) tree.old outside.old place
         (λ style. targeted words.now) tree.new outside.new result }
+    ensures here { OnCompletion result (IsHere tree.old tree.new place) }
     ensures keeps { Keeps O.entries_left tree.old tree.new outside.old outside.new }
 {
     tree.keeps_form();
@@ -272,6 +291,7 @@ pub fn serve_eval<O: Outside>(
     ensures runs { ProceedsAt (ways O.goes O.loses) tree.old outside.old place
         (λ style. table.serve style (Eval script.old)) tree.new outside.new result }
     ensures held { (p : Path) → Names tree.old place p → IsHeld tree.old tree.new p }
+    ensures here { OnCompletion result (IsHere tree.old tree.new place) }
     ensures keeps { Keeps O.entries_left tree.old tree.new outside.old outside.new }
 {
     let ended = eval_value(tree, alloc, outside, place, script);
@@ -294,15 +314,42 @@ pub fn serve_hidden<O: Outside>(
     ensures runs { ProceedsAt (ways O.goes O.loses) tree.old outside.old place
         (λ style. table.serve style (InvokeHidden is_global words.items)) tree.new outside.new
         result }
+    ensures here { OnCompletion result (IsHere tree.old tree.new place) }
     ensures keeps { Keeps O.entries_left tree.old tree.new outside.old outside.new }
 {
     let words = some_words(words)?;
     charge(tree, outside, place)?;
-    let ended = invoke_at(tree, alloc, outside, place, is_global, words.as_slice());
+    let ended = invoke(tree, alloc, outside, place, is_global, words.as_slice());
     settled(alloc, ended)
 }
 
 /// Calls a hidden command one level deeper, at level 0 where that is asked for.
+#[cycle(eval)]
+#[inline(never)]
+fn invoke<O: Outside>(
+    tree: &mut Tree,
+    alloc: Global,
+    outside: &mut O,
+    place: Place,
+    is_global: bool,
+    words: &[Value],
+) -> Result<Value, Interruption>
+    requires { (p : Path) × Names tree.old place p }
+    ensures runs { ProceedsAt (ways O.goes O.loses) tree.old outside.old place
+        (λ style. unhidden is_global words.now) tree.new outside.new result }
+    ensures here { OnCompletion result (IsHere tree.old tree.new place) }
+    ensures keeps { Keeps O.entries_left tree.old tree.new outside.old outside.new }
+{
+    tree.keeps_form();
+    if let Err(levels) = tree.nest_at(place) {
+        return Err(too_deep(alloc, levels));
+    }
+    let ended = invoke_at(tree, alloc, outside, place, is_global, words);
+    tree.unnest(place);
+    ended
+}
+
+/// Calls a hidden command, at level 0 where that is asked for.
 #[cycle(eval)]
 #[inline(never)]
 fn invoke_at<O: Outside>(
@@ -313,43 +360,18 @@ fn invoke_at<O: Outside>(
     is_global: bool,
     words: &[Value],
 ) -> Result<Value, Interruption>
-    requires { (p : Path) × Names tree.old place p }
-    ensures runs { Invokes
-        (ways O.goes O.loses) tree.old outside.old place is_global words.now tree.new
-        outside.new result }
+    requires { IsRunning tree.old place }
+    ensures runs { ProceedsIn (ways O.goes O.loses) tree.old outside.old place
+        (λ style. table.hidden_at style is_global words.now) tree.new outside.new result }
+    ensures here { OnCompletion result (IsHere tree.old tree.new place) }
     ensures keeps { Keeps O.entries_left tree.old tree.new outside.old outside.new }
 {
     if !is_global {
-        return invoke(tree, alloc, outside, place, words);
+        return call_hidden(tree, alloc, outside, place, words);
     }
     set_aside(tree, alloc, place, 0)?;
-    let ended = invoke(tree, alloc, outside, place, words);
-    bring_back(tree, place);
-    ended
-}
-
-/// Calls a hidden command one level deeper.
-#[cycle(eval)]
-#[inline(never)]
-fn invoke<O: Outside>(
-    tree: &mut Tree,
-    alloc: Global,
-    outside: &mut O,
-    place: Place,
-    words: &[Value],
-) -> Result<Value, Interruption>
-    requires { (p : Path) × Names tree.old place p }
-    ensures runs { ProceedsAt (ways O.goes O.loses) tree.old outside.old place
-        (λ style. unhidden words.now) tree.new outside.new result }
-    ensures there { (p : Path) → Names tree.old place p → Names tree.new place p }
-    ensures keeps { Keeps O.entries_left tree.old tree.new outside.old outside.new }
-{
-    tree.keeps_form();
-    if let Err(levels) = tree.nest_at(place) {
-        return Err(too_deep(alloc, levels));
-    }
     let ended = call_hidden(tree, alloc, outside, place, words);
-    tree.unnest(place);
+    bring_back(tree, place);
     ended
 }
 
@@ -368,6 +390,7 @@ pub fn ask_entry<O: Outside>(
     ensures asks { Asks (ways O.goes O.loses) tree.old outside.old place path.now
         (whole_entry entry) tree.new
         outside.new result }
+    ensures here { OnCompletion result (IsHere tree.old tree.new place) }
     ensures keeps { Keeps O.entries_left tree.old tree.new outside.old outside.new }
 {
     if path.is_empty() {
@@ -391,6 +414,7 @@ fn ask_below<O: Outside>(
     ensures asks { AsksBelow (ways O.goes O.loses) tree.old outside.old place path.now
         (whole_entry entry)
         tree.new outside.new result }
+    ensures here { OnCompletion result (IsHere tree.old tree.new place) }
     ensures keeps { Keeps O.entries_left tree.old tree.new outside.old outside.new }
 {
     match tree.reach(place, 0, path) {

@@ -6,8 +6,9 @@ ghost use Rattle.tcl_core.specs.Paths.{Path};
 ghost use Rattle.tcl_language.specs.Scripts as scripts;
 ghost use Rattle.tcl_core.specs.Trees as core;
 ghost use Rattle.tcl_tree.specs.Own.{Own};
-ghost use Rattle.tcl_run.specs.Ends.{Breaks};
-ghost use Rattle.tcl_run.specs.Runs.{IsHeld, IsRunning, Keeps, ProceedsAt, ProceedsIn, ways};
+ghost use Rattle.tcl_run.specs.Ends.{Breaks, OnCompletion};
+ghost use Rattle.tcl_run.specs.Runs.{IsHeld, IsHere, IsRunning, Keeps, ProceedsAt, ProceedsIn};
+ghost use Rattle.tcl_run.specs.Runs.{ways};
 ghost use Rattle.tcl_tree.specs.TreeOf.{tree_of, Names};
 ghost use Rattle.tcl_calls.specs.Words.{opens, IsShort};
 ghost use Rattle.tcl_evaluation.specs.View.{PartGoes, PartBreaks, read_so};
@@ -44,6 +45,7 @@ pub fn eval_script<O: Outside>(
     ensures runs { ProceedsAt (ways O.goes O.loses) tree.old outside.old place
         (λ style. read_so script.now) tree.new outside.new result }
     ensures held { (p : Path) → Names tree.old place p → IsHeld tree.old tree.new p }
+    ensures here { OnCompletion result (IsHere tree.old tree.new place) }
     ensures keeps { Keeps O.entries_left tree.old tree.new outside.old outside.new }
 {
     tree.keeps_form();
@@ -71,6 +73,7 @@ pub fn eval_text<O: Outside>(
     requires { (p : Path) × Names tree.old place p }
     ensures runs { ProceedsAt (ways O.goes O.loses) tree.old outside.old place
         (λ style. scripts.script text.now) tree.new outside.new result }
+    ensures here { OnCompletion result (IsHere tree.old tree.new place) }
     ensures keeps { Keeps O.entries_left tree.old tree.new outside.old outside.new }
 {
     let script = tree.script(alloc, text)?;
@@ -95,6 +98,7 @@ pub fn eval_value<O: Outside>(
         (λ style. scripts.script value.old) tree.new outside.new result }
     ensures same { value.new ≡ value.old }
     ensures held { (p : Path) → Names tree.old place p → IsHeld tree.old tree.new p }
+    ensures here { OnCompletion result (IsHere tree.old tree.new place) }
     ensures keeps { Keeps O.entries_left tree.old tree.new outside.old outside.new }
 {
     let script = tree.script_of(alloc, value)?;
@@ -116,6 +120,7 @@ fn eval_commands<O: Outside>(
     ensures runs { ProceedsIn (ways O.goes O.loses) tree.old outside.old place
         (λ style. scripts.commands script.now.commands script.now.fault []) tree.new outside.new
         result }
+    ensures here { OnCompletion result (IsHere tree.old tree.new place) }
     ensures keeps { Keeps O.entries_left tree.old tree.new outside.old outside.new }
 {
     let mut last = Value::empty();
@@ -142,6 +147,7 @@ fn eval_command<O: Outside>(
     requires running { IsRunning tree.old place }
     ensures runs { ProceedsIn (ways O.goes O.loses) tree.old outside.old place
         (λ style. scripts.words command.now []) tree.new outside.new result }
+    ensures here { OnCompletion result (IsHere tree.old tree.new place) }
     ensures keeps { Keeps O.entries_left tree.old tree.new outside.old outside.new }
 {
     let mut words = Vec::with_capacity(alloc, command.words.len())?;
@@ -172,6 +178,7 @@ pub(crate) fn eval_word<O: Outside>(
     requires running { IsRunning tree.old place }
     ensures runs { ProceedsIn (ways O.goes O.loses) tree.old outside.old place
         (λ style. scripts.parts word.now.parts [] []) tree.new outside.new result }
+    ensures here { OnCompletion result (IsHere tree.old tree.new place) }
     ensures keeps { Keeps O.entries_left tree.old tree.new outside.old outside.new }
 {
     match word.parts.as_slice() {
@@ -193,6 +200,7 @@ fn eval_lone_part<O: Outside>(
     requires running { IsRunning tree.old place }
     ensures runs { ProceedsIn (ways O.goes O.loses) tree.old outside.old place
         (λ style. scripts.parts (part.now ∷ []) [] []) tree.new outside.new result }
+    ensures here { OnCompletion result (IsHere tree.old tree.new place) }
     ensures keeps { Keeps O.entries_left tree.old tree.new outside.old outside.new }
 {
     match part {
@@ -220,6 +228,7 @@ fn substitute<O: Outside>(
     requires running { IsRunning tree.old place }
     ensures runs { ProceedsIn (ways O.goes O.loses) tree.old outside.old place
         (λ style. scripts.parts parts.now [] []) tree.new outside.new result }
+    ensures here { OnCompletion result (IsHere tree.old tree.new place) }
     ensures keeps { Keeps O.entries_left tree.old tree.new outside.old outside.new }
 {
     let mut elements = Vec::new(alloc);
@@ -251,6 +260,7 @@ fn eval_part<O: Outside>(
         (λ i. Breaks i (PartBreaks (ways O.goes O.loses) tree.old outside.old place part.now
         (opens elements.old.items) (string_bytes text.old) tree.new outside.new)) }
     ensures short { OnOk result (IsShort (string_bytes text.new)) }
+    ensures here { OnCompletion result (IsHere tree.old tree.new place) }
     ensures keeps { Keeps O.entries_left tree.old tree.new outside.old outside.new }
 {
     match part {

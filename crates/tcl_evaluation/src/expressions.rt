@@ -1,8 +1,8 @@
 //! Expressions, and the commands with conditions.
 ghost use Rattle.std.specs.Prelude.{◌≡◌, MatchResult};
 ghost use Rattle.tcl_language.specs.Expressions as expressions;
-ghost use Rattle.tcl_run.specs.Ends.{Breaks};
-ghost use Rattle.tcl_run.specs.Runs.{IsRunning, Keeps, ProceedsIn, ways};
+ghost use Rattle.tcl_run.specs.Ends.{Breaks, OnCompletion};
+ghost use Rattle.tcl_run.specs.Runs.{IsHere, IsRunning, Keeps, ProceedsIn, ways};
 ghost use Rattle.tcl_evaluation.specs.Conditional.{Computes, TestGoes, TestBreaks, TurnGoes};
 ghost use Rattle.tcl_evaluation.specs.Conditional.{TurnBreaks};
 
@@ -40,6 +40,7 @@ fn expression<O: Outside>(
     ensures runs { Computes
         (ways O.goes O.loses) tree.old outside.old place kept.now tree.new outside.new
         result }
+    ensures here { OnCompletion result (IsHere tree.old tree.new place) }
     ensures keeps { Keeps O.entries_left tree.old tree.new outside.old outside.new }
 {
     let style = tree.integers();
@@ -72,6 +73,7 @@ fn condition<O: Outside>(
         outside.new holds)
         (λ i. Breaks i (TestBreaks (ways O.goes O.loses) tree.old outside.old place test.now
         tree.new outside.new)) }
+    ensures here { OnCompletion result (IsHere tree.old tree.new place) }
     ensures keeps { Keeps O.entries_left tree.old tree.new outside.old outside.new }
 {
     let style = tree.integers();
@@ -96,6 +98,7 @@ pub fn expr<O: Outside>(
     requires { IsRunning tree.old place }
     ensures runs { ProceedsIn (ways O.goes O.loses) tree.old outside.old place
         (λ style. expressions.expr args.now) tree.new outside.new result }
+    ensures here { OnCompletion result (IsHere tree.old tree.new place) }
     ensures keeps { Keeps O.entries_left tree.old tree.new outside.old outside.new }
 {
     if args.is_empty() {
@@ -124,6 +127,7 @@ pub fn if_first<O: Outside>(
     requires { IsRunning tree.old place }
     ensures runs { ProceedsIn (ways O.goes O.loses) tree.old outside.old place
         (λ style. expressions.if_first style args.now) tree.new outside.new result }
+    ensures here { OnCompletion result (IsHere tree.old tree.new place) }
     ensures keeps { Keeps O.entries_left tree.old tree.new outside.old outside.new }
 {
     let Some(branches) = branches_of(alloc, args)? else {
@@ -165,6 +169,7 @@ fn turn<O: Outside>(
         (λ i. Breaks i (TurnBreaks (ways O.goes O.loses) tree.old outside.old place test.now
         body.old tree.new outside.new)) }
     ensures same { body.new ≡ body.old }
+    ensures here { OnCompletion result (IsHere tree.old tree.new place) }
     ensures keeps { Keeps O.entries_left tree.old tree.new outside.old outside.new }
 {
     if !condition(tree, alloc, outside, place, evaluation, test)? {
@@ -193,6 +198,7 @@ pub fn while_loop<O: Outside>(
     requires { IsRunning tree.old place }
     ensures runs { ProceedsIn (ways O.goes O.loses) tree.old outside.old place
         (λ style. expressions.while_loop args.now) tree.new outside.new result }
+    ensures here { OnCompletion result (IsHere tree.old tree.new place) }
     ensures keeps { Keeps O.entries_left tree.old tree.new outside.old outside.new }
 {
     let [test, body] = args else {
@@ -228,6 +234,7 @@ pub fn for_loop<O: Outside>(
     requires { IsRunning tree.old place }
     ensures runs { ProceedsIn (ways O.goes O.loses) tree.old outside.old place
         (λ style. expressions.for_loop args.now) tree.new outside.new result }
+    ensures here { OnCompletion result (IsHere tree.old tree.new place) }
     ensures keeps { Keeps O.entries_left tree.old tree.new outside.old outside.new }
 {
     let [start, test, next, body] = args else {

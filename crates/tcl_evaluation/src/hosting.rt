@@ -3,8 +3,9 @@ ghost use Rattle.std.specs.Prelude.{◌≡◌, ◌++◌, ◌==◌, codes, IfOk};
 ghost use Rattle.std.specs.Str.{bytes_eq};
 ghost use Rattle.tcl_calls.specs.HostCalls.{meaning_of, program_of};
 ghost use Rattle.tcl_language.specs.Hosting as hosting;
+ghost use Rattle.tcl_run.specs.Ends.{OnCompletion};
 ghost use Rattle.tcl_run.specs.Entering.{request_of};
-ghost use Rattle.tcl_run.specs.Runs.{IsRunning, Keeps, ProceedsIn, ways};
+ghost use Rattle.tcl_run.specs.Runs.{IsHere, IsRunning, Keeps, ProceedsIn, ways};
 ghost use Rattle.tcl_evaluation.specs.Requests.{Hears};
 
 use crate::waiting::{Said, wait};
@@ -38,6 +39,7 @@ pub fn ask<O: Outside>(
     ensures runs { Hears (ways O.goes O.loses) tree.old outside.old place
         (request_of request) tree.new
         outside.new result }
+    ensures here { OnCompletion result (IsHere tree.old tree.new place) }
     ensures keeps { Keeps O.entries_left tree.old tree.new outside.old outside.new }
 {
     let entry = Entry::AskHost(request);
@@ -51,6 +53,7 @@ pub fn ask<O: Outside>(
     match wait(tree, alloc, outside, place, None, &entry)? {
         Said::Heard(reply) => Ok(reply),
         Said::Completed(_) => unreachable!(),
+        Said::Missed => unreachable!(),
     }
 }
 
@@ -70,6 +73,7 @@ fn make_call<O: Outside>(
     requires { IsRunning tree.old place }
     ensures runs { ProceedsIn (ways O.goes O.loses) tree.old outside.old place
         (λ style. meaning_of call.now) tree.new outside.new result }
+    ensures here { OnCompletion result (IsHere tree.old tree.new place) }
     ensures keeps { Keeps O.entries_left tree.old tree.new outside.old outside.new }
 {
     let request = call.request()?;
@@ -96,6 +100,7 @@ pub fn call_host<O: Outside>(
     requires { IsRunning tree.old place }
     ensures runs { ProceedsIn (ways O.goes O.loses) tree.old outside.old place
         (λ style. program_of command args.now) tree.new outside.new result }
+    ensures here { OnCompletion result (IsHere tree.old tree.new place) }
     ensures keeps { Keeps O.entries_left tree.old tree.new outside.old outside.new }
 {
     let call = host_call(alloc, command, args)?;
@@ -119,6 +124,7 @@ pub fn puts<O: Outside>(
     requires { IsRunning tree.old place }
     ensures runs { ProceedsIn (ways O.goes O.loses) tree.old outside.old place
         (λ style. hosting.puts args.now) tree.new outside.new result }
+    ensures here { OnCompletion result (IsHere tree.old tree.new place) }
     ensures keeps { Keeps O.entries_left tree.old tree.new outside.old outside.new }
 {
     match args {
@@ -167,6 +173,7 @@ fn put_line<O: Outside>(
     requires { IsRunning tree.old place }
     ensures runs { ProceedsIn (ways O.goes O.loses) tree.old outside.old place
         (λ style. hosting.puts_line channel.now text.now) tree.new outside.new result }
+    ensures here { OnCompletion result (IsHere tree.old tree.new place) }
     ensures keeps { Keeps O.entries_left tree.old tree.new outside.old outside.new }
 {
     let mut line = text.clone()?;
@@ -191,6 +198,7 @@ fn write<O: Outside>(
     requires { IsRunning tree.old place }
     ensures runs { ProceedsIn (ways O.goes O.loses) tree.old outside.old place
         (λ style. hosting.writes channel.now text.now) tree.new outside.new result }
+    ensures here { OnCompletion result (IsHere tree.old tree.new place) }
     ensures keeps { Keeps O.entries_left tree.old tree.new outside.old outside.new }
 {
     let call = HostCall::Write(channel.clone()?, text.text(alloc)?);

@@ -4,7 +4,8 @@ ghost use Rattle.tcl_calls.specs.Walks.{walks_at};
 ghost use Rattle.tcl_language.specs.Control as control;
 ghost use Rattle.tcl_language.specs.Changes as changes;
 ghost use Rattle.tcl_language.specs.Pairing as pairing;
-ghost use Rattle.tcl_run.specs.Runs.{IsRunning, Keeps, ProceedsIn, ways};
+ghost use Rattle.tcl_run.specs.Ends.{OnCompletion};
+ghost use Rattle.tcl_run.specs.Runs.{IsHere, IsRunning, Keeps, ProceedsIn, ways};
 ghost use Rattle.tcl_text.specs.declared.integer.Integers.{Integers};
 
 use crate::evaluation::eval_value;
@@ -41,6 +42,7 @@ fn walk_through<O: Outside>(
     ensures runs { ProceedsIn (ways O.goes O.loses) tree.old outside.old place
         (λ style. control.foreach_turns (walks_at 0 walks.now) body.now) tree.new outside.new
         result }
+    ensures here { OnCompletion result (IsHere tree.old tree.new place) }
     ensures keeps { Keeps O.entries_left tree.old tree.new outside.old outside.new }
 {
     let mut script = body.clone()?;
@@ -75,6 +77,7 @@ pub fn foreach<O: Outside>(
     requires { IsRunning tree.old place }
     ensures runs { ProceedsIn (ways O.goes O.loses) tree.old outside.old place
         (λ style. control.foreach args.now) tree.new outside.new result }
+    ensures here { OnCompletion result (IsHere tree.old tree.new place) }
     ensures keeps { Keeps O.entries_left tree.old tree.new outside.old outside.new }
 {
     let Some((words, body)) = loop_words(args) else {
@@ -101,6 +104,7 @@ fn dict_for<O: Outside>(
     requires { IsRunning tree.old place }
     ensures runs { ProceedsIn (ways O.goes O.loses) tree.old outside.old place
         (λ style. pairing.dict_for args.now) tree.new outside.new result }
+    ensures here { OnCompletion result (IsHere tree.old tree.new place) }
     ensures keeps { Keeps O.entries_left tree.old tree.new outside.old outside.new }
 {
     let (walks, body) = read_dict_loop(alloc, args)?;
@@ -124,6 +128,7 @@ pub fn dict<O: Outside>(
     requires { IsRunning tree.old place }
     ensures runs { ProceedsIn (ways O.goes O.loses) tree.old outside.old place
         (λ style. pairing.dict style args.now) tree.new outside.new result }
+    ensures here { OnCompletion result (IsHere tree.old tree.new place) }
     ensures keeps { Keeps O.entries_left tree.old tree.new outside.old outside.new }
 {
     match behind_for(args) {
@@ -163,6 +168,7 @@ pub fn uplevel<O: Outside>(
     requires { IsRunning tree.old place }
     ensures runs { ProceedsIn (ways O.goes O.loses) tree.old outside.old place
         (λ style. control.uplevel style args.now) tree.new outside.new result }
+    ensures here { OnCompletion result (IsHere tree.old tree.new place) }
     ensures keeps { Keeps O.entries_left tree.old tree.new outside.old outside.new }
 {
     let (level, words) = script_level(tree, alloc, place, args)?;

@@ -1,7 +1,8 @@
 //! `source`.
 ghost use Rattle.std.specs.Prelude.{◌≡◌};
 ghost use Rattle.tcl_language.specs.Sourcing as sourcing;
-ghost use Rattle.tcl_run.specs.Runs.{IsRunning, Keeps, ProceedsIn, ways};
+ghost use Rattle.tcl_run.specs.Ends.{OnCompletion};
+ghost use Rattle.tcl_run.specs.Runs.{IsHere, IsRunning, Keeps, ProceedsIn, ways};
 ghost use Rattle.tcl_evaluation.specs.Requests.{ReadsScript};
 
 use crate::evaluation::eval_value;
@@ -34,6 +35,7 @@ pub fn source<O: Outside>(
     requires { IsRunning tree.old place }
     ensures runs { ProceedsIn (ways O.goes O.loses) tree.old outside.old place
         (λ style. sourcing.source args.now) tree.new outside.new result }
+    ensures here { OnCompletion result (IsHere tree.old tree.new place) }
     ensures keeps { Keeps O.entries_left tree.old tree.new outside.old outside.new }
 {
     match args {
@@ -55,6 +57,7 @@ fn source_file<O: Outside>(
     requires { IsRunning tree.old place }
     ensures runs { ProceedsIn (ways O.goes O.loses) tree.old outside.old place
         (λ style. sourcing.sources file.now) tree.new outside.new result }
+    ensures here { OnCompletion result (IsHere tree.old tree.new place) }
     ensures keeps { Keeps O.entries_left tree.old tree.new outside.old outside.new }
 {
     let mut script = read_file(tree, alloc, outside, place, file)?;
@@ -74,6 +77,7 @@ fn read_file<O: Outside>(
     requires { IsRunning tree.old place }
     ensures runs { ReadsScript (ways O.goes O.loses) tree.old outside.old place
         (sourcing.sources file.now) tree.new outside.new result }
+    ensures here { OnCompletion result (IsHere tree.old tree.new place) }
     ensures keeps { Keeps O.entries_left tree.old tree.new outside.old outside.new }
 {
     let request = Request::Open(file.clone()?, OpenMode::Read);
@@ -97,6 +101,7 @@ fn read_channel<O: Outside>(
     requires { IsRunning tree.old place }
     ensures runs { ReadsScript (ways O.goes O.loses) tree.old outside.old place
         (sourcing.reads_script file.now channel.now) tree.new outside.new result }
+    ensures here { OnCompletion result (IsHere tree.old tree.new place) }
     ensures keeps { Keeps O.entries_left tree.old tree.new outside.old outside.new }
 {
     let read_all = Request::ReadAll(channel.clone()?);
@@ -119,6 +124,7 @@ fn eval_file<O: Outside>(
     requires { IsRunning tree.old place }
     ensures runs { ProceedsIn (ways O.goes O.loses) tree.old outside.old place
         (λ style. sourcing.evaluates_file script.old) tree.new outside.new result }
+    ensures here { OnCompletion result (IsHere tree.old tree.new place) }
     ensures keeps { Keeps O.entries_left tree.old tree.new outside.old outside.new }
 {
     let ended = eval_value(tree, alloc, outside, place, script);

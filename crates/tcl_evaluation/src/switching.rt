@@ -1,6 +1,7 @@
 //! `switch`.
 ghost use Rattle.tcl_language.specs.Switching as switching;
-ghost use Rattle.tcl_run.specs.Runs.{IsRunning, Keeps, ProceedsIn, ways};
+ghost use Rattle.tcl_run.specs.Ends.{OnCompletion};
+ghost use Rattle.tcl_run.specs.Runs.{IsHere, IsRunning, Keeps, ProceedsIn, ways};
 
 use crate::evaluation::eval_value;
 use std::alloc::Global;
@@ -27,6 +28,7 @@ pub fn switch<O: Outside>(
     requires { IsRunning tree.old place }
     ensures runs { ProceedsIn (ways O.goes O.loses) tree.old outside.old place
         (λ style. switching.switch args.now) tree.new outside.new result }
+    ensures here { OnCompletion result (IsHere tree.old tree.new place) }
     ensures keeps { Keeps O.entries_left tree.old tree.new outside.old outside.new }
 {
     let Some(body) = chosen_body(alloc, args)? else {

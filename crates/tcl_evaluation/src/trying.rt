@@ -4,7 +4,8 @@ ghost use Rattle.tcl_calls.specs.Trying.{handlers_of};
 ghost use Rattle.tcl_flow.specs.View.{completion_of};
 ghost use Rattle.tcl_language.specs.Expressions.{runs_last};
 ghost use Rattle.tcl_language.specs.Trying as trying;
-ghost use Rattle.tcl_run.specs.Runs.{IsRunning, Keeps, ProceedsIn, ways};
+ghost use Rattle.tcl_run.specs.Ends.{OnCompletion};
+ghost use Rattle.tcl_run.specs.Runs.{IsHere, IsRunning, Keeps, ProceedsIn, ways};
 
 use crate::evaluation::eval_value;
 use std::alloc::Global;
@@ -33,6 +34,7 @@ fn run_handler<O: Outside>(
     requires { IsRunning tree.old place }
     ensures runs { ProceedsIn (ways O.goes O.loses) tree.old outside.old place
         (λ style. runs_last (option_copied chosen.entry)) tree.new outside.new result }
+    ensures here { OnCompletion result (IsHere tree.old tree.new place) }
     ensures keeps { Keeps O.entries_left tree.old tree.new outside.old outside.new }
 {
     let Some(script) = chosen else {
@@ -61,6 +63,7 @@ fn handle<O: Outside>(
     ensures runs { ProceedsIn (ways O.goes O.loses) tree.old outside.old place
         (λ style. trying.handled_by (completion_of completion) (handlers_of handlers.now)) tree.new
         outside.new result }
+    ensures here { OnCompletion result (IsHere tree.old tree.new place) }
     ensures keeps { Keeps O.entries_left tree.old tree.new outside.old outside.new }
 {
     let Some((names, script)) = handler_for(alloc, &completion, handlers)? else {
@@ -88,6 +91,7 @@ fn handled<O: Outside>(
     requires { IsRunning tree.old place }
     ensures runs { ProceedsIn (ways O.goes O.loses) tree.old outside.old place
         (λ style. trying.handled body.now (handlers_of handlers.now)) tree.new outside.new result }
+    ensures here { OnCompletion result (IsHere tree.old tree.new place) }
     ensures keeps { Keeps O.entries_left tree.old tree.new outside.old outside.new }
 {
     let mut script = body.clone()?;
@@ -114,6 +118,7 @@ pub fn try_script<O: Outside>(
     requires { IsRunning tree.old place }
     ensures runs { ProceedsIn (ways O.goes O.loses) tree.old outside.old place
         (λ style. trying.try_script style args.now) tree.new outside.new result }
+    ensures here { OnCompletion result (IsHere tree.old tree.new place) }
     ensures keeps { Keeps O.entries_left tree.old tree.new outside.old outside.new }
 {
     let [body, words @ ..] = args else {

@@ -1,7 +1,7 @@
 -- Aliases to an embedder's functions.
-use Rattle.std.specs.Prelude.{◌≡◌, ◌+◌, ◌⊎◌, [], ◌∷◌, length, Option}
+use Rattle.std.specs.Prelude.{◌≡◌, ◌⊎◌, [], ◌∷◌, Option}
 use Rattle.tcl_core.specs.Paths.{Path, Text}
-use Rattle.tcl_interpreter.specs.Commands.{AliasView}
+use Rattle.tcl_interpreter.specs.Commands.{AliasView, way_past}
 use Rattle.tcl_interpreter.specs.Nodes.{NodeView}
 use Rattle.tcl_interpreter.specs.declared.command.Command.TheVariants as command
 use Rattle.tcl_interpreter.specs.declared.refusal.TreeError.{TreeError}
@@ -9,14 +9,9 @@ use Rattle.tcl_interpreter.specs.declared.refusal.TreeError.TheVariants.{BadName
 use Rattle.tcl_tree.specs.Naming.{Becomes, RefusesAt, named}
 use Rattle.tcl_value.specs.Limits.{IsPast}
 
--- The way of an interpreter at p leads one level above the root. The one word is the function's
--- name.
+-- An alias whose calls leave the tree. Its one word is the function's name.
 abbrev pub function_alias : Path → Text → AliasView
-function_alias p function = record {
-  up = length p + 1;
-  down = [];
-  words = function ∷ [];
-}
+function_alias p function = way_past p (function ∷ [])
 
 -- the name becomes such an alias
 abbrev pub Aliases : (Path → Option NodeView) → (Path → Option NodeView) → Path → Text → Text →

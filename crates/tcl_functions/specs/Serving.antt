@@ -1,16 +1,18 @@
 -- How an embedder's functions stand outside of a tree, beside a host.
-use Rattle.std.specs.Prelude.{◌≡◌, ℕ, ℤ, ◌+◌, true, false, List, [], ◌∷◌, ◌++◌, length, codes}
+use Rattle.std.specs.Prelude.{◌≡◌, ◌⊎◌, ℕ, ℤ, ◌+◌, true, false, List, [], ◌∷◌, ◌++◌, length, codes}
 use Rattle.std.specs.Prelude.{Option, Some, None, Result, Ok, Err}
 use Rattle.tcl_core.specs.Endings.{Completion, Reply, error}
-use Rattle.tcl_core.specs.Endings.Reply.{Completed, Exit}
+use Rattle.tcl_core.specs.Endings.Kind.{Gone}
+use Rattle.tcl_core.specs.Endings.Reply.{Completed, Exit, Stop}
 use Rattle.tcl_core.specs.Entries as core
 use Rattle.tcl_core.specs.Entries.{Answer, Entry}
-use Rattle.tcl_core.specs.Entries.Answer.{Replied, Heard}
+use Rattle.tcl_core.specs.Entries.Answer.{Replied, Heard, Nobody}
 use Rattle.tcl_core.specs.Entries.Entry.{AskHost}
 use Rattle.tcl_core.specs.Paths.{Height, Path, Place, Text, rise_to}
 use Rattle.tcl_core.specs.Programs.{Wait}
-use Rattle.tcl_core.specs.Trees.{What}
-use Rattle.tcl_core.specs.Trees.What.{Refused, Out, In, Done, Back}
+use Rattle.tcl_core.specs.Runs.{gone_from}
+use Rattle.tcl_core.specs.Trees.{Tree, What}
+use Rattle.tcl_core.specs.Trees.What.{Refused, Out, In, Done, Back, Unfound}
 use Rattle.tcl_flow.specs.View.{completion_of}
 use Rattle.tcl_flow.specs.declared.completion.Completion as code
 use Rattle.tcl_functions.specs.Actions.{ActionView}
@@ -21,7 +23,6 @@ use Rattle.tcl_functions.specs.declared.call.Call.{Call}
 use Rattle.tcl_functions.specs.declared.serving.WithFunctions.{WithFunctions}
 use Rattle.tcl_host.specs.declared.reply.HostReply.{HostReply}
 use Rattle.tcl_host.specs.declared.request.Request.{Request}
-use Rattle.tcl_language.specs.Interpreters.{no_interpreter}
 use Rattle.tcl_run.specs.Ends.{Interrupts}
 use Rattle.tcl_run.specs.Entering.{request_of, whole_entry}
 use Rattle.tcl_run.specs.Outsides.{Going, reply_of}
@@ -104,6 +105,13 @@ abbrev pub HearsEnd : {F H : Type 0} → Option Completion → WithFunctions F H
 HearsEnd (Some c) o z = TakesReply o c z
 HearsEnd None o z = HearsExit o z
 
+-- An entry that the last open call hands in finds nobody at its path: that is a reply to the call.
+pub record FindsNobody {F H : Type 0} (serves : Serving F) (o : WithFunctions F H) (t : Path)
+    (i : Entry) (c : Completion) (z : WithFunctions F H) : Type 0 where
+  pub between : WithFunctions F H
+  pub hands_in : HandsIn serves o t i between
+  pub hears : TakesReply between c z
+
 -- the last open call is closed
 pub record Closes {F H : Type 0} (o : WithFunctions F H) (below : List Call)
     (z : WithFunctions F H) : Type 0 where
@@ -124,7 +132,6 @@ EndsBy left (Exits n) r = r ≡ Exit n
 EndsBy left (Enters t i) r = (left ≡ 0) × (r ≡ Completed (error too_many_entries))
 
 -- The last open call ends so: by what its function does, or with its entry that ended by an exit.
--- Where no call is open, nobody is there.
 pub data EndsCall {F H : Type 0} (serves : Serving F) (o : WithFunctions F H) (r : Reply)
     (z : WithFunctions F H) : Type 0 where
   served : (below : List Call) (call : Call) (does : ActionView) →
@@ -133,9 +140,18 @@ pub data EndsCall {F H : Type 0} (serves : Serving F) (o : WithFunctions F H) (r
   exited : (below : List Call) (call : Call) (n : ℤ) → o.exits ≡ true →
       o.calls.items ≡ below ++ call ∷ [] → r ≡ Exit n → z.functions ≡ o.functions →
       Closes o below z → EndsCall serves o r z
-  unopened : length o.calls.items ≡ 0 → length z.calls.items ≡ 0 →
-      r ≡ Completed (error (no_interpreter [])) → z.functions ≡ o.functions →
-      z.exits ≡ o.exits → Keeps o z → EndsCall serves o r z
+
+-- no call is open, and nothing changes
+pub record HasNoCall {F H : Type 0} (o z : WithFunctions F H) : Type 0 where
+  pub before : length o.calls.items ≡ 0
+  pub after : length z.calls.items ≡ 0
+  pub functions : z.functions ≡ o.functions
+  pub exits : z.exits ≡ o.exits
+  pub keeps : Keeps o z
+
+-- The call ends by a completion, or nobody is there: a caller that is gone is told of neither.
+abbrev pub EndsUntold : {F H : Type 0} → Serving F → WithFunctions F H → WithFunctions F H → Type 0
+EndsUntold serves o z = ((c : Completion) × EndsCall serves o (Completed c) z) ⊎ HasNoCall o z
 
 -- The host replies to a request.
 pub record HearsHost {F H : Type 0} (step : Hosting H) (o : WithFunctions F H) (q : core.Request)
@@ -163,27 +179,36 @@ abbrev pub GoesOut : {F H : Type 0} → Height → WithFunctions F H → Path �
 GoesOut None o p i z = z ≡ o
 GoesOut (Some n) o p i z = Begins o p i z
 
--- an answer comes back to the open call s
-abbrev pub ComesBack : {F H : Type 0} → Serving F → Hosting H → WithFunctions F H → Wait → Answer →
-    WithFunctions F H → Type 0
-ComesBack serves step o (Some (Some n, i)) (Replied r) z = EndsCall serves o r z
-ComesBack serves step o (Some (None, AskHost q)) (Heard a) z = HearsHost step o q a z
-ComesBack serves step o s a z = Prim.⊥
+-- An answer comes back to the open call s, whose caller is gone or isn't. One that is gone is told
+-- that in place of a completion, of a host's reply, and where nobody is there.
+abbrev pub ComesBack : {F H : Type 0} → Serving F → Hosting H → WithFunctions F H → Option ℕ →
+    Wait → Answer → WithFunctions F H → Type 0
+ComesBack serves step o g (Some (Some n, i, d)) (Replied (Stop m Gone)) z = (g ≡ Some m) ×
+    EndsUntold serves o z
+ComesBack serves step o g (Some (Some n, i, d)) (Replied r) z = EndsCall serves o r z
+ComesBack serves step o g (Some (Some n, i, d)) Nobody z = HasNoCall o z
+ComesBack serves step o g (Some (None, AskHost q, d)) (Heard a) z = HearsHost step o q a z
+ComesBack serves step o g (Some (None, AskHost q, d)) (Replied (Stop m Gone)) z = (g ≡ Some m) ×
+    (a : core.HostReply) × HearsHost step o q a z
+ComesBack serves step o g s a z = Prim.⊥
 
-abbrev pub meets : {F H : Type 0} → Serving F → Hosting H → WithFunctions F H → Wait → Place →
-    What Own → WithFunctions F H → Type 0
-meets serves step o s p (Out h down i) z = past (rise_to h p) o z (GoesOut h o p i z)
-meets serves step o s p (In h i) z = past (rise_to h p) o z (HandsIn serves o p i z)
-meets serves step o s p (Done h r) z = past (rise_to h p) o z (HearsEnd (seen r) o z)
-meets serves step o s p (Back h a) z = past (rise_to h p) o z (ComesBack serves step o s a z)
-meets serves step o s p (Refused m None) z = Prim.⊥
-meets serves step o s p x z = z ≡ o
+abbrev pub meets : {F H : Type 0} → Serving F → Hosting H → Tree Own → WithFunctions F H → Wait →
+    Place → What Own → WithFunctions F H → Type 0
+meets serves step T o s p (Out h down i) z = past (rise_to h p) o z (GoesOut h o p i z)
+meets serves step T o s p (In h i) z = past (rise_to h p) o z (HandsIn serves o p i z)
+meets serves step T o s p (Done h r) z = past (rise_to h p) o z (HearsEnd (seen r) o z)
+meets serves step T o s p (Back h a) z = past (rise_to h p) o z
+    (ComesBack serves step o (gone_from s T p) s a z)
+meets serves step T o s p (Unfound t i c) z = FindsNobody serves o t i c z
+meets serves step T o s p (Refused m None) z = Prim.⊥
+meets serves step T o s p x z = z ≡ o
 
 -- Functions and a host go from one state to the next by what passes the top of the tree: a call of
 -- a function opens it, what the function does next hands in an entry or ends the call, an entry's
--- end is a reply to it, and a request is a step of the host. They refuse no step.
+-- end, or that it found nobody, is a reply to it, and a request is a step of the host. Nobody is
+-- there where no call is open. They refuse no step.
 abbrev pub going : {F H : Type 0} → Serving F → Hosting H → Going (WithFunctions F H)
-going serves step T o s ev z = meets serves step o s ev.place ev.what z
+going serves step T o s ev z = meets serves step T o s ev.place ev.what z
 
 -- what comes of an open call of a function
 abbrev pub Serves : {F H : Type 0} → Serving F → WithFunctions F H → WithFunctions F H →
@@ -192,6 +217,7 @@ Serves serves o z (Ok (turn.Entry target entry)) = HandsIn serves o target.items
     (whole_entry entry) z
 Serves serves o z (Ok (turn.Completed text)) = Prim.⊥
 Serves serves o z (Ok (turn.Heard reply)) = Prim.⊥
+Serves serves o z (Ok turn.Nobody) = HasNoCall o z
 Serves serves o z (Err e) = Interrupts e (λ r. EndsCall serves o r z)
 
 -- a call is open again for whose entry there is room

@@ -1,11 +1,10 @@
 //! Aliases to an embedder's functions.
-ghost use Rattle.std.specs.Prelude.{◌≡◌, List, ℕ, IfErr, IfOk, IsSome, OnErr, OnOk};
-ghost use Rattle.tcl_functions.specs.Aliases.{Aliases, RefusesAlias, function_alias};
+ghost use Rattle.std.specs.Prelude.{◌≡◌, ◌∷◌, [], List, ℕ, IfErr, IfOk, IsSome, OnErr, OnOk};
+ghost use Rattle.tcl_functions.specs.Aliases.{Aliases, RefusesAlias};
 ghost use Rattle.tcl_tree.specs.TreeOf.{key_of, marks_of, tree_of};
 
 use std::alloc::{AllocError, Global};
 use tcl_text::text::Text;
-use tcl_tree::alias::Alias;
 use tcl_tree::refusal::TreeError;
 use tcl_tree::tree::Tree;
 use tcl_value::value::{Value, ValueError};
@@ -57,18 +56,17 @@ fn alias_to(
     ensures keys { (q : List (List ℕ)) → key_of tree.new q ≡ key_of tree.old q }
     ensures marks { marks_of tree.new ≡ marks_of tree.old }
 {
-    let alias = alias_of(alloc, path, function)?;
-    match tree.set_alias(path, name, alias) {
+    match tree.set_alias_past(alloc, path, name, one_word(alloc, function)?) {
         Ok(()) => Ok(()),
         Err(refused) => Err(refused),
     }
 }
 
-/// The alias of an interpreter at the path that leads past the root, to a function.
-fn alias_of(alloc: Global, path: &[Text], function: Value) -> Result<Alias, AllocError>
-    ensures { IfOk result (λ alias. alias ≡ function_alias path.now function) }
+/// The words of an alias to a function: its name alone.
+fn one_word(alloc: Global, function: Value) -> Result<Vec<Value>, AllocError>
+    ensures { IfOk result (λ words. words.items ≡ function ∷ []) }
 {
     let mut words = Vec::new(alloc);
     words.push(function)?;
-    Alias::new(alloc, path.len() + 1, Vec::new(alloc), words)
+    Ok(words)
 }

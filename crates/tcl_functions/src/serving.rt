@@ -21,7 +21,7 @@ use std::alloc::{AllocError, Global};
 use tcl_flow::completion::Completion;
 use tcl_host::host::{Host, ask};
 use tcl_run::entry::Entry;
-use tcl_run::failure::{no_interpreter, plain_failure};
+use tcl_run::failure::plain_failure;
 use tcl_run::interruption::Interruption;
 use tcl_run::outside::{Happening, Outside, Turn};
 use tcl_text::text::Text;
@@ -142,7 +142,7 @@ impl<F: Functions, H: Host> WithFunctions<F, H> {
         Ok(())
     }
 
-    /// An entry ended so that a function handed in.
+    /// An entry ended so that a function handed in, or found nobody, which is told so.
     fn hear_end(
         &mut self,
         alloc: Global,
@@ -193,14 +193,14 @@ impl<F: Functions, H: Host> WithFunctions<F, H> {
         Ok(())
     }
 
-    /// What comes next to the last open call.
+    /// What comes next to the last open call; that nobody is there, where none is open.
     fn serve(&mut self, alloc: Global) -> Result<Turn, Interruption>
         ensures serves { Serves F.serves self.old self.new result }
         ensures fewer { OnEntry result (self.new.entries < self.old.entries) }
         ensures left { self.new.entries ≤ self.old.entries }
     {
         let Some(call) = self.calls.pop() else {
-            return Err(no_interpreter(alloc, ""));
+            return Ok(Turn::Nobody);
         };
         let action = self.functions.call(alloc, &call)?;
         match entry_of(alloc, action) {
@@ -268,6 +268,7 @@ impl<F: Functions, H: Host> Outside for WithFunctions<F, H> {
                 None => Ok(()),
             },
             Happening::EntryDone { ended, .. } => self.hear_end(alloc, ended),
+            Happening::Unfound { told, .. } => self.hear_end(alloc, told),
             Happening::ExitCameBack { up, .. } => match up {
                 Some(_) => self.close(),
                 None => Err(AllocError),
@@ -288,7 +289,7 @@ impl<F: Functions, H: Host> Outside for WithFunctions<F, H> {
             (None, Entry::AskHost(request)) => {
                 Ok(Turn::Heard(ask(&mut self.host, alloc, request)?))
             }
-            (None, _) => Err(no_interpreter(alloc, "")),
+            (None, _) => Ok(Turn::Nobody),
             (Some(_), _) => self.serve(alloc),
         }
     }

@@ -54,9 +54,9 @@ pub none_made : (text : Text) (safe : Bool) (path : List Text) → length path <
 none_made text safe [] h = refl
 none_made text safe (x ∷ xs) h = absurd (omega arith)
 
-pub last_deleted : (text : Text) (path : List Text) (name : Text) (more : Program) → 1 ≤ length path → name ≡ get_or path (length path - 1) name → interpreters.deletes_named text path more ≡ interpreters.deletes_at text (take (length path - 1) path, name) more
+pub last_deleted : (text : Text) (path : List Text) (name : Text) (more : Program) → 1 ≤ length path → name ≡ get_or path (length path - 1) name → interpreters.deletes_named text path more ≡ interpreters.deletes_at (take (length path - 1) path, name) more
 last_deleted text [] name more h e = absurd (omega arith)
-last_deleted text (x ∷ xs) name more h e = ap (λ (p : List Text × Text). interpreters.deletes_at text p more) (before_of x xs name e)
+last_deleted text (x ∷ xs) name more h e = ap (λ (p : List Text × Text). interpreters.deletes_at p more) (before_of x xs name e)
 
 pub none_deleted : (text : Text) (path : List Text) (more : Program) → length path < 1 → interpreters.deletes_named text path more ≡ fails (interpreters.in_use text)
 none_deleted text [] more h = refl

@@ -1,6 +1,5 @@
 -- Steps of a program one after the other, each of which may run something.
 use Rattle.std.proofs.Common.{◌≡◌, inl, inr, true, false, [], ◌∷◌, Some, refl, sym, ◌∙◌, ap, subst}
-use Rattle.std.specs.Global.{Box}
 use Rattle.std.specs.Prelude.{Result, Ok, Err}
 use Rattle.tcl_core.specs.Endings.{Completion, ok}
 use Rattle.tcl_core.specs.Endings.Reply.{Completed}
@@ -9,14 +8,13 @@ use Rattle.tcl_core.specs.Paths.{Text, Path}
 use Rattle.tcl_core.specs.Programs.Prog.{done}
 use Rattle.tcl_core.specs.Execution.{completed}
 use Rattle.tcl_flow.specs.View.{completion_of}
-use Rattle.tcl_flow.specs.declared.completion.Completion.{Completion as Ended}
-use Rattle.tcl_language.specs.Instructions.{Program, either, fails}
+use Rattle.tcl_language.specs.Instructions.{Program, either}
 use Rattle.tcl_language.specs.Definitions.{deletes_child}
-use Rattle.tcl_language.specs.Interpreters.{after_delete, at_path, code_is_ok, deletes_at, deletes_named, in_use}
-use Rattle.tcl_run.specs.Ends.{Interrupts, failing}
+use Rattle.tcl_language.specs.Interpreters.{after_delete, at_path, code_is_ok, deletes_at, deletes_named}
+use Rattle.tcl_run.specs.Ends.{Interrupts}
 use Rattle.tcl_run.specs.Outsides.{Going}
 use Rattle.tcl_run.specs.Plain.{Acts, Does}
-use Rattle.tcl_run.specs.Runs.{Evaluates, IsThere, IsSteady}
+use Rattle.tcl_run.specs.Runs.{Evaluates, IsHere, IsThere}
 use Rattle.tcl_run.specs.declared.interruption.Interruption.{Interruption}
 use Rattle.tcl_run.specs.declared.interruption.Interruption.TheVariants as interruption
 use Rattle.tcl_run.proofs.Endings.{IfEnded-more, Interrupts-more}
@@ -30,7 +28,7 @@ use Rattle.tcl_tree.specs.declared.tree.Tree.{Tree as Table}
 use Rattle.tcl_tree.specs.declared.tree.Place.{Place as TablePlace}
 use Rattle.tcl_entries.specs.Asking.{Asks, EndsIn, Leads, Steps, Styled}
 use Rattle.tcl_entries.proofs.Telling.{passes}
-use Rattle.tcl_interp.specs.Deleting.{Deletes, IsInUse}
+use Rattle.tcl_interp.specs.Deleting.{Deletes}
 use Rattle.tcl_interp.specs.Failing.{FailsSo}
 
 -- ## Programs as they end
@@ -77,31 +75,27 @@ leads_done goes s t a o place whole rest text told before same is = before (tree
 
 -- ## Deleting
 
-after_ok : (text : Text) (more : Program) (c : Completion) → code_is_ok c.code ≡ true → after_delete text more c ≡ more
-after_ok text more c e = ap (λ b. either b more (fails (in_use text))) e
+after_ok : (more : Program) (c : Completion) → code_is_ok c.code ≡ true → after_delete more c ≡ more
+after_ok more c e = ap (λ b. either b more (done c)) e
 
-after_other : (text : Text) (more : Program) (c : Completion) → code_is_ok c.code ≡ false → after_delete text more c ≡ fails (in_use text)
-after_other text more c e = ap (λ b. either b more (fails (in_use text))) e
+after_other : (more : Program) (c : Completion) → code_is_ok c.code ≡ false → after_delete more c ≡ done c
+after_other more c e = ap (λ b. either b more (done c)) e
 
-module _ {S : Type 0} (goes : Going S) (t u : Table) (o z : S) (place : TablePlace) (text : Text) (above : Path) (name : Text) (steady : IsSteady t u) where
+module _ {S : Type 0} (goes : Going S) (t u : Table) (o z : S) (place : TablePlace) (above : Path) (name : Text) (here : IsHere t u place) where
   abbrev step_of : Styled → Styled
-  step_of rest style = deletes_at text (above, name) (rest style)
+  step_of rest style = deletes_at (above, name) (rest style)
 
-  in_use_ends : (c : Box Ended) (r : Result (Unit {0}) Interruption) → code_is_ok c.value.code ≡ false → IsInUse text r → Asks goes t o place above (Delete name) u z (Err (interruption.Completed c)) → Steps goes t o place step_of u z r
-  in_use_ends c (Ok x) e h asks = absurd h
-  in_use_ends c (Err i) e h asks = λ rest. Interrupts-more i (λ e. e ≡ Completed (failing (in_use text))) (EndsIn goes t o place (step_of rest) (tree_of u) z)
-      (λ r f p style at. asks p style at (after_delete text (rest style)) (tree_of u) z r (at_prog (after_other text (rest style) (completion_of c.value) e) (at_reply f completed))) h
-
-  pub deletes_steps : (ended : Result Text Interruption) (r : Result (Unit {0}) Interruption) → Deletes text ended r → Asks goes t o place above (Delete name) u z ended → Steps goes t o place step_of u z r
+  pub deletes_steps : (ended : Result Text Interruption) (r : Result (Unit {0}) Interruption) → Deletes ended r → Asks goes t o place above (Delete name) u z ended → Steps goes t o place step_of u z r
   deletes_steps (Ok value) r d asks = subst (λ (x : Result (Unit {0}) Interruption). Steps goes t o place step_of u z x) (sym d)
-      (λ rest V y q e p style at. asks p style at (after_delete text (rest style)) V y q (e p style (still_at t u place p style steady at)))
+      (λ rest V y q e p style at. asks p style at (after_delete (rest style)) V y q (e p style (still_at t u place p style here at)))
   deletes_steps (Err interruption.Memory) r d asks = subst (λ (x : Result (Unit {0}) Interruption). Steps goes t o place step_of u z x) (sym d) (λ rest. tt)
   deletes_steps (Err (interruption.Completed c)) r (inl d) asks = subst (λ (x : Result (Unit {0}) Interruption). Steps goes t o place step_of u z x) (sym d.1)
-      (λ rest V y q e p style at. asks p style at (after_delete text (rest style)) V y q (at_prog (after_ok text (rest style) (completion_of c.value) d.0) (e p style (still_at t u place p style steady at))))
-  deletes_steps (Err (interruption.Completed c)) r (inr d) asks = in_use_ends c r d.0 d.1 asks
-  deletes_steps (Err (interruption.Stopped s)) r d asks = subst (λ (x : Result (Unit {0}) Interruption). Steps goes t o place step_of u z x) (sym d) (λ rest p style at. asks p style at (after_delete text (rest style)))
-  deletes_steps (Err (interruption.Exited n)) r d asks = subst (λ (x : Result (Unit {0}) Interruption). Steps goes t o place step_of u z x) (sym d) (λ rest p style at. asks p style at (after_delete text (rest style)))
-  deletes_steps (Err (interruption.Cut c)) r d asks = subst (λ (x : Result (Unit {0}) Interruption). Steps goes t o place step_of u z x) (sym d) (λ rest p style at. asks p style at (after_delete text (rest style)))
+      (λ rest V y q e p style at. asks p style at (after_delete (rest style)) V y q (at_prog (after_ok (rest style) (completion_of c.value) d.0) (e p style (still_at t u place p style here at))))
+  deletes_steps (Err (interruption.Completed c)) r (inr d) asks = subst (λ (x : Result (Unit {0}) Interruption). Steps goes t o place step_of u z x) (sym d.1)
+      (λ rest p style at. asks p style at (after_delete (rest style)) (tree_of u) z (Completed (completion_of c.value)) (at_prog (after_other (rest style) (completion_of c.value) d.0) completed))
+  deletes_steps (Err (interruption.Stopped s)) r d asks = subst (λ (x : Result (Unit {0}) Interruption). Steps goes t o place step_of u z x) (sym d) (λ rest p style at. asks p style at (after_delete (rest style)))
+  deletes_steps (Err (interruption.Exited n)) r d asks = subst (λ (x : Result (Unit {0}) Interruption). Steps goes t o place step_of u z x) (sym d) (λ rest p style at. asks p style at (after_delete (rest style)))
+  deletes_steps (Err (interruption.Cut c)) r d asks = subst (λ (x : Result (Unit {0}) Interruption). Steps goes t o place step_of u z x) (sym d) (λ rest p style at. asks p style at (after_delete (rest style)))
 
 -- A child is deleted by the path that is its name.
 module _ {S : Type 0} (goes : Going S) (t u : Table) (o z : S) (place : TablePlace) (name path : Text) where

@@ -1,7 +1,7 @@
 //! Aliases are given, taken away and asked about.
 ghost use Rattle.std.specs.Prelude.{◌∷◌, []};
 ghost use Rattle.tcl_language.specs.Interpreters as interpreters;
-ghost use Rattle.tcl_run.specs.Runs.{Evaluates, IsRunning, KeepsAndLoses};
+ghost use Rattle.tcl_run.specs.Runs.{Evaluates, IsHere, IsRunning, KeepsAndLoses};
 ghost use Rattle.tcl_interp.specs.Subjects.{about, on_path};
 ghost use Rattle.tcl_interp.specs.Programs.{aliases, gives_alias, given};
 
@@ -37,6 +37,7 @@ fn set_alias<O: Outside>(
         (λ style. given path.now goal.now name.now (word.now ∷ words.now)) tree.new outside.new
         result }
     ensures keeps { KeepsAndLoses O.entries_left O.loses tree.old tree.new outside.old outside.new }
+    ensures here { IsHere tree.old tree.new place }
 {
     let own = target_words(alloc, slice::from_ref(word), words)?;
     let alias = Alias::between(alloc, path, goal, own)?;
@@ -63,6 +64,7 @@ fn set_alias_between<O: Outside>(
         (λ style. interpreters.alias_path source.now name.now target.now word.now words.now)
         tree.new outside.new result }
     ensures keeps { KeepsAndLoses O.entries_left O.loses tree.old tree.new outside.old outside.new }
+    ensures here { IsHere tree.old tree.new place }
 {
     let found = path_of(tree, alloc, place, source)?;
     let goal = names_of(tree, alloc, place, target)?;
@@ -89,6 +91,7 @@ fn give_alias_at<O: Outside>(
         (λ style. gives_alias (on_path source.now) name.now target.now words.now) tree.new
         outside.new result }
     ensures keeps { KeepsAndLoses O.entries_left O.loses tree.old tree.new outside.old outside.new }
+    ensures here { IsHere tree.old tree.new place }
 {
     let [word, own @ ..] = words else {
         return Err(wrong_args(alloc, FORM));
@@ -113,6 +116,7 @@ fn give_alias<O: Outside>(
         (λ style. gives_alias (about subject.entry) name.now target.now words.now) tree.new
         outside.new result }
     ensures keeps { KeepsAndLoses O.entries_left O.loses tree.old tree.new outside.old outside.new }
+    ensures here { IsHere tree.old tree.new place }
 {
     match subject {
         Subject::Itself => {
@@ -142,6 +146,7 @@ fn clear_alias<O: Outside>(
     ensures evaluates { Evaluates O.goes tree.old outside.old place
         (λ style. aliases (about subject.entry) (name.now ∷ [] ∷ [])) tree.new outside.new result }
     ensures keeps { KeepsAndLoses O.entries_left O.loses tree.old tree.new outside.old outside.new }
+    ensures here { IsHere tree.old tree.new place }
 {
     let name = name.text(alloc)?;
     ask_subject(
@@ -167,6 +172,7 @@ fn alias_of<O: Outside>(
     ensures evaluates { Evaluates O.goes tree.old outside.old place
         (λ style. aliases (about subject.entry) (name.now ∷ [])) tree.new outside.new result }
     ensures keeps { KeepsAndLoses O.entries_left O.loses tree.old tree.new outside.old outside.new }
+    ensures here { IsHere tree.old tree.new place }
 {
     let question = Question::AliasOf(name.text(alloc)?);
     ask_subject(
@@ -196,6 +202,7 @@ pub fn alias<O: Outside>(
     ensures evaluates { Evaluates O.goes tree.old outside.old place
         (λ style. aliases (about subject.entry) args.now) tree.new outside.new result }
     ensures keeps { KeepsAndLoses O.entries_left O.loses tree.old tree.new outside.old outside.new }
+    ensures here { IsHere tree.old tree.new place }
 {
     match args {
         [] => Err(wrong_words(alloc, subject, FORM, "alias srcCmd ?targetCmd? ?arg ...?")),

@@ -5,7 +5,7 @@ ghost use Rattle.tcl_core.specs.Trees as core;
 ghost use Rattle.tcl_language.specs.Instructions.{or_fails};
 ghost use Rattle.tcl_language.specs.Interpreters as interpreters;
 ghost use Rattle.tcl_run.specs.Ends.{Interrupts};
-ghost use Rattle.tcl_run.specs.Runs.{Evaluates, IsRunning, KeepsAndLoses};
+ghost use Rattle.tcl_run.specs.Runs.{Evaluates, IsHere, IsRunning, KeepsAndLoses};
 ghost use Rattle.tcl_text.specs.Lists.{list_of};
 ghost use Rattle.tcl_text.specs.Writing.{fault_message};
 ghost use Rattle.tcl_tree.specs.Own.{Own};
@@ -42,6 +42,7 @@ fn create_below<O: Outside>(
         (λ style. interpreters.makes_at word.now safe (above.now, name.now)) tree.new outside.new
         result }
     ensures keeps { KeepsAndLoses O.entries_left O.loses tree.old tree.new outside.old outside.new }
+    ensures here { IsHere tree.old tree.new place }
 {
     stands(tree, alloc, place, word, above)?;
     let told = word.clone()?;
@@ -64,6 +65,7 @@ fn create_at<O: Outside>(
     ensures evaluates { Evaluates O.goes tree.old outside.old place
         (λ style. interpreters.makes_named word.now safe path.now) tree.new outside.new result }
     ensures keeps { KeepsAndLoses O.entries_left O.loses tree.old tree.new outside.old outside.new }
+    ensures here { IsHere tree.old tree.new place }
 {
     match path {
         [above @ .., name] => create_below(tree, alloc, outside, place, word, above, name, safe),
@@ -85,6 +87,7 @@ fn create_there<O: Outside>(
         (λ style. or_fails fault_message (list_of word.now)
         (interpreters.makes_named word.now safe)) tree.new outside.new result }
     ensures keeps { KeepsAndLoses O.entries_left O.loses tree.old tree.new outside.old outside.new }
+    ensures here { IsHere tree.old tree.new place }
 {
     let names = names_of(tree, alloc, place, word)?;
     create_at(tree, alloc, outside, place, word, names.as_slice(), safe)
@@ -114,6 +117,7 @@ fn create_unnamed<O: Outside>(
     ensures evaluates { Evaluates O.goes tree.old outside.old place
         (λ style. interpreters.create_path safe []) tree.new outside.new result }
     ensures keeps { KeepsAndLoses O.entries_left O.loses tree.old tree.new outside.old outside.new }
+    ensures here { IsHere tree.old tree.new place }
 {
     let name = free_name(tree, alloc, place)?;
     let told = Value::from_short_text(name.clone()?);
@@ -135,6 +139,7 @@ fn create_named<O: Outside>(
     ensures evaluates { Evaluates O.goes tree.old outside.old place
         (λ style. interpreters.create_path safe words.now) tree.new outside.new result }
     ensures keeps { KeepsAndLoses O.entries_left O.loses tree.old tree.new outside.old outside.new }
+    ensures here { IsHere tree.old tree.new place }
 {
     match words {
         [] => create_unnamed(tree, alloc, outside, place, safe),
@@ -195,6 +200,7 @@ pub fn create<O: Outside>(
     ensures evaluates { Evaluates O.goes tree.old outside.old place
         (λ style. interpreters.create_options false args.now) tree.new outside.new result }
     ensures keeps { KeepsAndLoses O.entries_left O.loses tree.old tree.new outside.old outside.new }
+    ensures here { IsHere tree.old tree.new place }
 {
     let (safe, words) = read_options(alloc, args)?;
     create_named(tree, alloc, outside, place, safe, words)

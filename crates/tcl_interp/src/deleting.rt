@@ -1,7 +1,7 @@
 //! `interp delete`.
 ghost use Rattle.tcl_core.specs.Entries.Entry.{Delete};
 ghost use Rattle.tcl_language.specs.Interpreters as interpreters;
-ghost use Rattle.tcl_run.specs.Runs.{Evaluates, IsRunning, KeepsAndLoses};
+ghost use Rattle.tcl_run.specs.Runs.{Evaluates, IsHere, IsRunning, KeepsAndLoses};
 ghost use Rattle.tcl_entries.specs.Asking.{Steps};
 ghost use Rattle.tcl_interp.specs.Deleting.{Deletes};
 
@@ -16,14 +16,9 @@ use tcl_text::text::Text;
 use tcl_tree::tree::{Place, Tree};
 use tcl_value::value::Value;
 
-/// What the end of asking to delete comes to: that the interpreter is in use, where it isn't an
-/// ordinary result.
-fn deleted(
-    alloc: Global,
-    text: &Text,
-    ended: Result<Value, Interruption>,
-) -> Result<(), Interruption>
-    ensures { Deletes text.now ended result }
+/// What the end of asking to delete comes to: nothing, where it is an ordinary result.
+fn deleted(ended: Result<Value, Interruption>) -> Result<(), Interruption>
+    ensures { Deletes ended result }
 {
     match ended {
         Ok(_) => Ok(()),
@@ -31,7 +26,7 @@ fn deleted(
             if completion.code == OK {
                 Ok(())
             } else {
-                Err(in_use(alloc, text.as_str()))
+                Err(Interruption::Completed(completion))
             }
         }
         Err(interruption) => Err(interruption),
@@ -44,19 +39,19 @@ fn delete_below<O: Outside>(
     alloc: Global,
     outside: &mut O,
     place: Place,
-    text: &Text,
     above: &[Text],
     name: &Text,
 ) -> Result<(), Interruption>
     requires { IsRunning tree.old place }
     ensures steps { Steps O.goes tree.old outside.old place
-        (λ rest style. interpreters.deletes_at text.now (above.now, name.now) (rest style)) tree.new
+        (λ rest style. interpreters.deletes_at (above.now, name.now) (rest style)) tree.new
         outside.new result }
     ensures keeps { KeepsAndLoses O.entries_left O.loses tree.old tree.new outside.old outside.new }
+    ensures here { IsHere tree.old tree.new place }
 {
     let entry = OwnEntry::Delete(name.clone()?);
     let ended = ask(tree, alloc, outside, place, above, entry);
-    deleted(alloc, text, ended)
+    deleted(ended)
 }
 
 /// Deletes the interpreter at a path, which isn't the one that asks.
@@ -73,17 +68,19 @@ fn delete_at<O: Outside>(
         (λ rest style. interpreters.deletes_named text.now path.now (rest style)) tree.new
         outside.new result }
     ensures keeps { KeepsAndLoses O.entries_left O.loses tree.old tree.new outside.old outside.new }
+    ensures here { IsHere tree.old tree.new place }
 {
     match path {
-        [above @ .., name] => delete_below(tree, alloc, outside, place, text, above, name),
+        [above @ .., name] => delete_below(tree, alloc, outside, place, above, name),
         [] => Err(in_use(alloc, text.as_str())),
     }
 }
 
-/// Deletes the interpreter at the path that a text is, with all below it.
+/// Deletes the interpreter at the path that a text is, with all below it, also where an evaluation
+/// is in progress in it.
 ///
 /// # Errors
-/// Those of the path: 101 to 104 and 301; 303 where an evaluation is in progress in it; want of
+/// Those of the path: 101 to 104 and 301; 303 where it is the interpreter that asks; want of
 /// memory.
 pub fn delete_there<O: Outside>(
     tree: &mut Tree,
@@ -98,17 +95,18 @@ pub fn delete_there<O: Outside>(
         (λ path n. interpreters.deletes_named text.now path (rest style))) tree.new outside.new
         result }
     ensures keeps { KeepsAndLoses O.entries_left O.loses tree.old tree.new outside.old outside.new }
+    ensures here { IsHere tree.old tree.new place }
 {
     let found = path_at(tree, alloc, place, text)?;
     delete_at(tree, alloc, outside, place, text, found.path.as_slice())
 }
 
-/// `interp delete ?path ...?`: deletes each interpreter in turn, with all below it, up to the first
-/// that is refused. (interp(n))
+/// `interp delete ?path ...?`: deletes each interpreter in turn, with all below it, also where an
+/// evaluation is in progress in it, up to the first that is refused. (interp(n))
 ///
 /// # Errors
-/// Of each path in turn, 101 to 104, 301, and 303 where an evaluation is in progress in the
-/// interpreter; want of memory.
+/// Of each path in turn, 101 to 104, 301, and 303 where it is the interpreter that asks; want of
+/// memory.
 pub fn delete<O: Outside>(
     tree: &mut Tree,
     alloc: Global,
@@ -120,6 +118,7 @@ pub fn delete<O: Outside>(
     ensures evaluates { Evaluates O.goes tree.old outside.old place
         (λ style. interpreters.delete args.now) tree.new outside.new result }
     ensures keeps { KeepsAndLoses O.entries_left O.loses tree.old tree.new outside.old outside.new }
+    ensures here { IsHere tree.old tree.new place }
 {
     'paths: for path in args {
         let text = path.text(alloc)?;

@@ -1,6 +1,6 @@
 //! The subcommands of `interp` and of a child's own command by their names.
 ghost use Rattle.std.specs.Prelude.{◌≡◌, true};
-ghost use Rattle.tcl_run.specs.Runs.{Evaluates, IsRunning, KeepsAndLoses};
+ghost use Rattle.tcl_run.specs.Runs.{Evaluates, IsHere, IsRunning, KeepsAndLoses};
 ghost use Rattle.tcl_interp.specs.Subcommands.{evaluates_nothing, tree_program_of};
 ghost use Rattle.tcl_interp.specs.Subjects.{about};
 ghost use Rattle.tcl_interp.specs.Programs.{program_of, IsInterps, IsChilds};
@@ -47,6 +47,7 @@ pub fn call_shared<O: Outside>(
         (λ style. program_of style subcommand (about subject.entry) args.now) tree.new outside.new
         result }
     ensures keeps { KeepsAndLoses O.entries_left O.loses tree.old tree.new outside.old outside.new }
+    ensures here { IsHere tree.old tree.new place }
 {
     match subcommand {
         Subcommand::Alias => alias(tree, alloc, outside, place, subject, args),
@@ -112,6 +113,7 @@ pub fn call_tree<O: Outside>(
     ensures evaluates { Evaluates O.goes tree.old outside.old place
         (λ style. tree_program_of subcommand args.now) tree.new outside.new result }
     ensures keeps { KeepsAndLoses O.entries_left O.loses tree.old tree.new outside.old outside.new }
+    ensures here { IsHere tree.old tree.new place }
 {
     match subcommand {
         TreeSubcommand::Create => create(tree, alloc, outside, place, args),

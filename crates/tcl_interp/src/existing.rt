@@ -3,7 +3,7 @@ ghost use Rattle.std.specs.Prelude.{◌∷◌, []};
 ghost use Rattle.tcl_core.specs.Programs.Act.{Look};
 ghost use Rattle.tcl_core.specs.Programs.Prog.{act};
 ghost use Rattle.tcl_language.specs.Interpreters as interpreters;
-ghost use Rattle.tcl_run.specs.Runs.{Evaluates, IsRunning, KeepsAndLoses};
+ghost use Rattle.tcl_run.specs.Runs.{Evaluates, IsHere, IsRunning, KeepsAndLoses};
 
 use crate::questions::ask_about;
 use std::alloc::Global;
@@ -30,6 +30,7 @@ fn exists_at<O: Outside>(
         (λ style. act Look (λ T. interpreters.exists_at path.now (T path.now))) tree.new outside.new
         result }
     ensures keeps { KeepsAndLoses O.entries_left O.loses tree.old tree.new outside.old outside.new }
+    ensures here { IsHere tree.old tree.new place }
 {
     match tree.reach(place, 0, path) {
         Reach::There(_) => {
@@ -53,6 +54,7 @@ fn exists_there<O: Outside>(
     ensures evaluates { Evaluates O.goes tree.old outside.old place
         (λ style. interpreters.exists (word.now ∷ [])) tree.new outside.new result }
     ensures keeps { KeepsAndLoses O.entries_left O.loses tree.old tree.new outside.old outside.new }
+    ensures here { IsHere tree.old tree.new place }
 {
     let names = names_of(tree, alloc, place, word)?;
     exists_at(tree, alloc, outside, place, names.as_slice())
@@ -73,6 +75,7 @@ pub fn exists<O: Outside>(
     ensures evaluates { Evaluates O.goes tree.old outside.old place
         (λ style. interpreters.exists args.now) tree.new outside.new result }
     ensures keeps { KeepsAndLoses O.entries_left O.loses tree.old tree.new outside.old outside.new }
+    ensures here { IsHere tree.old tree.new place }
 {
     match args {
         [word] => exists_there(tree, alloc, outside, place, word),

@@ -5,7 +5,7 @@ ghost use Rattle.tcl_language.specs.Faults as faults;
 ghost use Rattle.tcl_language.specs.Interpreters as interpreters;
 ghost use Rattle.tcl_run.specs.Ends.{Interrupts, failing};
 ghost use Rattle.tcl_run.specs.Entering.{entry_of};
-ghost use Rattle.tcl_run.specs.Runs.{Evaluates, IsRunning, KeepsAndLoses};
+ghost use Rattle.tcl_run.specs.Runs.{Evaluates, IsHere, IsRunning, KeepsAndLoses};
 ghost use Rattle.tcl_interp.specs.Subjects.{about, path_text};
 ghost use Rattle.tcl_interp.specs.Programs.{hiding_entry, hiding_forms, hides_or_exposes};
 
@@ -66,6 +66,7 @@ fn hide_or_expose_as<O: Outside>(
         (λ style. interpreters.asks_trusted (path_text (about subject.entry))
         (hiding_entry hiding from.now to.now)) tree.new outside.new result }
     ensures keeps { KeepsAndLoses O.entries_left O.loses tree.old tree.new outside.old outside.new }
+    ensures here { IsHere tree.old tree.new place }
 {
     let entry = asked_entry(alloc, hiding, from, to)?;
     ask_trusted(tree, alloc, outside, place, subject, entry)
@@ -108,6 +109,7 @@ pub fn hide_or_expose<O: Outside>(
         (λ style. hides_or_exposes hiding (about subject.entry) args.now) tree.new outside.new
         result }
     ensures keeps { KeepsAndLoses O.entries_left O.loses tree.old tree.new outside.old outside.new }
+    ensures here { IsHere tree.old tree.new place }
 {
     match args {
         [name] => hide_or_expose_as(tree, alloc, outside, place, subject, hiding, name, name),

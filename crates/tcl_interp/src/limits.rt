@@ -4,7 +4,7 @@ ghost use Rattle.tcl_core.specs.Paths.{Path};
 ghost use Rattle.tcl_language.specs.Interpreters as interpreters;
 ghost use Rattle.tcl_language.specs.Variables as variables;
 ghost use Rattle.tcl_run.specs.Entering.{entry_of};
-ghost use Rattle.tcl_run.specs.Runs.{Evaluates, IsRunning, KeepsAndLoses};
+ghost use Rattle.tcl_run.specs.Runs.{Evaluates, IsHere, IsRunning, KeepsAndLoses};
 ghost use Rattle.tcl_tree.specs.TreeOf.{Names};
 ghost use Rattle.tcl_entries.specs.Looking.{Finds, Passes};
 ghost use Rattle.tcl_interp.specs.Limits.{CountGiven, DepthGiven};
@@ -228,6 +228,7 @@ fn set_limit<O: Outside>(
     ensures evaluates { Evaluates O.goes tree.old outside.old place
         (λ style. sets style limit (about subject.entry) value.now) tree.new outside.new result }
     ensures keeps { KeepsAndLoses O.entries_left O.loses tree.old tree.new outside.old outside.new }
+    ensures here { IsHere tree.old tree.new place }
 {
     permit(tree, alloc, place)?;
     let path = settable_path(tree, alloc, place, limit, subject)?;
@@ -248,6 +249,7 @@ fn limit_of<O: Outside>(
     ensures evaluates { Evaluates O.goes tree.old outside.old place
         (λ style. limits style (about subject.entry) (word.now ∷ [])) tree.new outside.new result }
     ensures keeps { KeepsAndLoses O.entries_left O.loses tree.old tree.new outside.old outside.new }
+    ensures here { IsHere tree.old tree.new place }
 {
     commands_only(tree, alloc, place, word)?;
     let entry = OwnEntry::Ask(Question::CountLimitOf);
@@ -270,6 +272,7 @@ fn limit_with<O: Outside>(
         (λ style. limits style (about subject.entry) (word.now ∷ option.now ∷ value.now ∷ []))
         tree.new outside.new result }
     ensures keeps { KeepsAndLoses O.entries_left O.loses tree.old tree.new outside.old outside.new }
+    ensures here { IsHere tree.old tree.new place }
 {
     commands_only(tree, alloc, place, word)?;
     value_only(tree, alloc, place, option)?;
@@ -293,6 +296,7 @@ pub fn limit<O: Outside>(
     ensures evaluates { Evaluates O.goes tree.old outside.old place
         (λ style. limits style (about subject.entry) args.now) tree.new outside.new result }
     ensures keeps { KeepsAndLoses O.entries_left O.loses tree.old tree.new outside.old outside.new }
+    ensures here { IsHere tree.old tree.new place }
 {
     match args {
         [word] => limit_of(tree, alloc, outside, place, subject, word),
@@ -318,6 +322,7 @@ fn depth_limit_of<O: Outside>(
     ensures evaluates { Evaluates O.goes tree.old outside.old place
         (λ style. depths style (about subject.entry) []) tree.new outside.new result }
     ensures keeps { KeepsAndLoses O.entries_left O.loses tree.old tree.new outside.old outside.new }
+    ensures here { IsHere tree.old tree.new place }
 {
     let entry = OwnEntry::Ask(Question::DepthLimitOf);
     match subject {
@@ -347,6 +352,7 @@ pub fn recursion_limit<O: Outside>(
     ensures evaluates { Evaluates O.goes tree.old outside.old place
         (λ style. depths style (about subject.entry) args.now) tree.new outside.new result }
     ensures keeps { KeepsAndLoses O.entries_left O.loses tree.old tree.new outside.old outside.new }
+    ensures here { IsHere tree.old tree.new place }
 {
     match args {
         [] => depth_limit_of(tree, alloc, outside, place, subject),

@@ -1,7 +1,7 @@
 //! `rename`.
 ghost use Rattle.std.specs.Prelude.{◌∷◌, [], Some};
 ghost use Rattle.tcl_language.specs.Definitions as definitions;
-ghost use Rattle.tcl_run.specs.Runs.{Evaluates, IsRunning, KeepsAndLoses};
+ghost use Rattle.tcl_run.specs.Runs.{Evaluates, IsHere, IsRunning, KeepsAndLoses};
 
 use crate::deleting::delete_there;
 use std::alloc::Global;
@@ -27,6 +27,7 @@ fn delete_child<O: Outside>(
     ensures evaluates { Evaluates O.goes tree.old outside.old place
         (λ style. definitions.deletes_child (Some name.now)) tree.new outside.new result }
     ensures keeps { KeepsAndLoses O.entries_left O.loses tree.old tree.new outside.old outside.new }
+    ensures here { IsHere tree.old tree.new place }
 {
     let path = path_text(alloc, name)?;
     delete_there(tree, alloc, outside, place, &path)?;
@@ -45,6 +46,7 @@ fn take_away<O: Outside>(
     ensures evaluates { Evaluates O.goes tree.old outside.old place
         (λ style. definitions.takes_away word.now) tree.new outside.new result }
     ensures keeps { KeepsAndLoses O.entries_left O.loses tree.old tree.new outside.old outside.new }
+    ensures here { IsHere tree.old tree.new place }
 {
     let is_child = names_child(tree, alloc, place, word)?;
     if !is_child {
@@ -68,6 +70,7 @@ fn rename_as<O: Outside>(
     ensures evaluates { Evaluates O.goes tree.old outside.old place
         (λ style. definitions.rename (old.now ∷ new.now ∷ [])) tree.new outside.new result }
     ensures keeps { KeepsAndLoses O.entries_left O.loses tree.old tree.new outside.old outside.new }
+    ensures here { IsHere tree.old tree.new place }
 {
     if new.is_text(b"") {
         return take_away(tree, alloc, outside, place, old);
@@ -76,10 +79,11 @@ fn rename_as<O: Outside>(
 }
 
 /// `rename oldName newName`: gives a command another name, or takes it away where that is empty; to
-/// take a child's command away deletes the child, with all below it. (rename(n))
+/// take a child's command away deletes the child, with all below it, also where an evaluation is in
+/// progress in it. (rename(n))
 ///
 /// # Errors
-/// 241; 238, 302 and 305; 303 where an evaluation is in progress in the child; want of memory.
+/// 241; 238, 302 and 305; want of memory.
 pub fn rename<O: Outside>(
     tree: &mut Tree,
     alloc: Global,
@@ -91,6 +95,7 @@ pub fn rename<O: Outside>(
     ensures evaluates { Evaluates O.goes tree.old outside.old place
         (λ style. definitions.rename args.now) tree.new outside.new result }
     ensures keeps { KeepsAndLoses O.entries_left O.loses tree.old tree.new outside.old outside.new }
+    ensures here { IsHere tree.old tree.new place }
 {
     match args {
         [old, new] => rename_as(tree, alloc, outside, place, old, new),

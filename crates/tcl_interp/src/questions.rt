@@ -1,6 +1,6 @@
 //! Questions about an interpreter.
 ghost use Rattle.tcl_language.specs.Interpreters as interpreters;
-ghost use Rattle.tcl_run.specs.Runs.{Evaluates, IsRunning, KeepsAndLoses};
+ghost use Rattle.tcl_run.specs.Runs.{Evaluates, IsHere, IsRunning, KeepsAndLoses};
 ghost use Rattle.tcl_run.specs.Entering.{question_of};
 ghost use Rattle.tcl_interp.specs.Subjects.{about};
 ghost use Rattle.tcl_interp.specs.Programs.{questions};
@@ -34,6 +34,7 @@ pub fn ask_question<O: Outside>(
         (λ style. questions (about subject.entry) form.now own.now (question_of question) args.now)
         tree.new outside.new result }
     ensures keeps { KeepsAndLoses O.entries_left O.loses tree.old tree.new outside.old outside.new }
+    ensures here { IsHere tree.old tree.new place }
 {
     if !args.is_empty() {
         return Err(wrong_words(alloc, subject, form, own));
@@ -67,6 +68,7 @@ pub fn ask_about<O: Outside>(
         (λ style. interpreters.question form.now (question_of question) args.now) tree.new
         outside.new result }
     ensures keeps { KeepsAndLoses O.entries_left O.loses tree.old tree.new outside.old outside.new }
+    ensures here { IsHere tree.old tree.new place }
 {
     let (subject, words) = split_path(args);
     ask_question(

@@ -7,7 +7,7 @@ ghost use Rattle.tcl_language.specs.Faults as faults;
 ghost use Rattle.tcl_language.specs.Interpreters as interpreters;
 ghost use Rattle.tcl_run.specs.Ends.{Interrupts, failing};
 ghost use Rattle.tcl_run.specs.Entering.{entry_of};
-ghost use Rattle.tcl_run.specs.Runs.{Evaluates, IsRunning, KeepsAndLoses};
+ghost use Rattle.tcl_run.specs.Runs.{Evaluates, IsHere, IsRunning, KeepsAndLoses};
 ghost use Rattle.tcl_entries.specs.Looking.{Finds};
 ghost use Rattle.tcl_interp.specs.Subjects.{about, asks_of, form_of, path_text, reached};
 ghost use Rattle.tcl_interp.specs.Subjects.{split_path};
@@ -187,6 +187,7 @@ pub fn ask_subject<O: Outside>(
     ensures evaluates { Evaluates O.goes tree.old outside.old place
         (λ style. asks_of (about subject.entry) (entry_of entry)) tree.new outside.new result }
     ensures keeps { KeepsAndLoses O.entries_left O.loses tree.old tree.new outside.old outside.new }
+    ensures here { IsHere tree.old tree.new place }
 {
     let path = path_to(tree, alloc, place, subject)?;
     ask_at(tree, alloc, outside, place, path.as_slice(), entry)
@@ -206,6 +207,7 @@ pub fn ask_trusted<O: Outside>(
         (λ style. interpreters.asks_trusted (path_text (about subject.entry)) (entry_of entry))
         tree.new outside.new result }
     ensures keeps { KeepsAndLoses O.entries_left O.loses tree.old tree.new outside.old outside.new }
+    ensures here { IsHere tree.old tree.new place }
 {
     let path = trusted_path(tree, alloc, place, subject)?;
     ask_at(tree, alloc, outside, place, path.as_slice(), entry)

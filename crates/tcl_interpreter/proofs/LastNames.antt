@@ -3,8 +3,7 @@ use Rattle.std.proofs.Common.{◌≡◌, ℕ, zero, suc, ◌+◌, ◌-◌, ◌<�
 use Rattle.std.specs.Prelude.{nat_le}
 use Rattle.std.proofs.lemmas.Bool.Decides.{nat_tests}
 use Rattle.std.proofs.lemmas.Option.{same_Some}
-use Rattle.tcl_core.specs.Paths.{falls, rise, shorter, together, unless}
-use Rattle.tcl_interpreter.specs.Commands.{AliasView, detour, straight}
+use Rattle.tcl_core.specs.Paths.{falls, rise, shorter, together}
 use Rattle.tcl_interpreter.specs.Paths.{Text, Path, ancestor}
 use Rattle.tcl_interpreter.proofs.AliasLemmas.{way_leads}
 use Rattle.tcl_interpreter.proofs.PathLemmas.{rise_is}
@@ -68,16 +67,3 @@ straight_leads at down n t within is most b up =
     let w = way_leads (drop k at) down (take k at) t (is ∙ ap (λ x. together x down) names) (subst (λ x. t ≤ length x) names most) in
     let above : b ≡ take k at = same_Some (sym up ∙ rise_is n at within) in
     (w.0, ap (λ p. rise (n - t) p) (sym split) ∙ ap (λ m. rise (m - t) (take k at ++ drop k at)) (sym size) ∙ w.1, w.2 ∙ ap (λ x. x ++ down) (sym above))
-
--- a way that leads one level past the top comes down nowhere
-none_past : (p : Path) → detour p (length p + 1) [] ≡ 0
-none_past p =
-    let far : nat_le (length p + 1) (length p) ≡ false = grind (arith, nat_tests) in
-    ap (λ (b : Bool). unless b (together (falls (length p + 1) p) [])) far
-
-pub straight_past : (p : Path) (words : List Text) → ◌≡◌ {A = AliasView} (straight p (record { up = length p + 1; down = []; words = words })) (record { up = length p + 1; down = []; words = words })
-straight_past p words =
-    let none = none_past p in
-    let up : length p + 1 - detour p (length p + 1) [] ≡ length p + 1 = omega arith in
-    let down : drop (detour p (length p + 1) []) [] ≡ [] = ap (λ (n : ℕ). drop n []) none in
-    (λ i. record { up = up i; down = down i; words = words })

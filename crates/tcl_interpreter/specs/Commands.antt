@@ -1,5 +1,5 @@
 -- What procedures and aliases are.
-use Rattle.std.specs.Prelude.{ℕ, ◌-◌, List, length, drop, nat_le}
+use Rattle.std.specs.Prelude.{ℕ, ◌+◌, ◌-◌, List, [], length, drop, nat_le}
 use Rattle.tcl_core.specs.Paths.{Text, falls, together, unless}
 use Rattle.tcl_interpreter.specs.declared.parameter.Parameter.{Parameter}
 
@@ -23,6 +23,10 @@ way_between from to words = record {
   down = drop (together from to) to;
   words = words;
 }
+
+-- the way from a path to what is above the root, and these words
+abbrev pub way_past : List Text → List Text → AliasView
+way_past from words = record { up = length from + 1; down = []; words = words }
 
 -- How many names the way down from the interpreter so many levels above the one at a path has in
 -- common with the way from there to it: none where that is above the tree.

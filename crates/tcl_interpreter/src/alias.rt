@@ -1,7 +1,7 @@
 //! Aliases.
 ghost use Rattle.std.specs.Prelude.{◌≡◌, ◌≤◌, ◌-◌, ◌++◌, List, ℕ, Some, IfOk, length, drop};
 ghost use Rattle.tcl_core.specs.Paths.{falls, rise, together};
-ghost use Rattle.tcl_interpreter.specs.Commands.{straight};
+ghost use Rattle.tcl_interpreter.specs.Commands.{straight, way_past};
 
 use std::alloc::{AllocError, Global};
 use std::marker::Model;
@@ -88,6 +88,17 @@ impl Alias {
         let common = in_common(from, to);
         let down = Vec::from_clones(alloc, &to[common..])?;
         Alias::new(alloc, from.len() - common, down, words)
+    }
+
+    /// An alias of the interpreter at the path whose calls leave the tree: its target is above the
+    /// root.
+    ///
+    /// # Errors
+    /// Want of memory.
+    pub fn past(alloc: Global, path: &[Text], words: Vec<Value>) -> Result<Alias, AllocError>
+        ensures { IfOk result (λ made. made ≡ way_past path.now words.items) }
+    {
+        Alias::new(alloc, path.len() + 1, Vec::new(alloc), words)
     }
 
     /// An alias to the interpreter so many levels up and these names down, whose calls begin with

@@ -1,17 +1,18 @@
 //! Runs of the moves of an outside: entries that it hands in while no call is open, with a budget
 //! of steps beside the limits of the tree.
-ghost use Rattle.std.specs.Prelude.{◌≡◌, ◌<◌, ◌≤◌, Bool, true, false, None, Some, IfErr, IfNone};
+ghost use Rattle.std.specs.Prelude.{◌≡◌, ◌<◌, ◌≤◌, ◌+◌, Bool, true, false, None, Some, IfErr};
 ghost use Rattle.std.specs.Option.{option_map};
-ghost use Rattle.std.specs.Prelude.{[], IfOk, IfSome, IsErrOf, is_some};
+ghost use Rattle.std.specs.Prelude.{[], IfNone, IfOk, IfSome, IsErrOf, is_some};
 ghost use Rattle.tcl_core.specs.Execution.{event};
 ghost use Rattle.tcl_core.specs.Trees as core;
 ghost use Rattle.tcl_core.specs.Trees.What.{In};
 ghost use Rattle.tcl_evaluation.specs.Waiting.{ExitOf};
-ghost use Rattle.tcl_open_moves.specs.OpenMoves.{GivesUp, GivesUpIn, IsGivenUp, KeepsCounts};
-ghost use Rattle.tcl_open_moves.specs.OpenMoves.{Serves, by_budget, grants, halt_at, halt_of};
-ghost use Rattle.tcl_open_moves.specs.OpenMoves.{hands, last_end, result_of};
-ghost use Rattle.tcl_open_moves.specs.declared.moves.Outcome.TheVariants.{Finished};
-ghost use Rattle.tcl_eval.specs.Running.{unfit};
+ghost use Rattle.tcl_open_moves.specs.OpenMoves.{ComesOf, GivesUp, GivesUpIn, GivesUpOn};
+ghost use Rattle.tcl_open_moves.specs.OpenMoves.{IsDenied, IsGivenUp, KeepsCounts, Serves};
+ghost use Rattle.tcl_open_moves.specs.OpenMoves.{by_budget, grants, halt_at, halt_of, hands};
+ghost use Rattle.tcl_open_moves.specs.OpenMoves.{last_end, result_of};
+ghost use Rattle.tcl_open_moves.specs.declared.moves.Outcome.TheVariants.{Denied, Finished};
+ghost use Rattle.tcl_eval.specs.Running.{root_count, unfit};
 ghost use Rattle.tcl_eval.specs.declared.running.Refused.TheVariants.{Memory};
 ghost use Rattle.tcl_language_laws.specs.Language.{language};
 ghost use Rattle.tcl_reactions.specs.Moving as moving;
@@ -19,11 +20,11 @@ ghost use Rattle.tcl_reactions.specs.Moving.{Lived, Moved};
 ghost use Rattle.tcl_run.specs.Entering.{whole_entry};
 ghost use Rattle.tcl_run.specs.Runs.{IsLoss, IsSteady, ways};
 ghost use Rattle.tcl_tree.specs.Own.{Own};
-ghost use Rattle.tcl_tree.specs.TreeOf.{marks_of, tree_of};
+ghost use Rattle.tcl_tree.specs.TreeOf.{Names, marks_of, tree_of};
 
 use std::alloc::{AllocError, Global};
 use tcl_eval::running::{self, Refused};
-use tcl_evaluation::waiting::enter;
+use tcl_evaluation::waiting::{enter, miss_entry};
 use tcl_run::entry::Entry;
 use tcl_run::interruption::{Cause, Interruption};
 use tcl_run::outside::{Happening, Outside, Turn};
@@ -45,10 +46,13 @@ pub trait Mover: Outside {
             (λ read. IfSome read (λ x. (T : core.Tree Own) → Self.goes T self.old None
             (event x.0.items (In None (whole_entry x.1))) self.new)) }
         ensures is_next { IfOk result (λ read. is_some read ≡ hands_next self.old) }
+        ensures hands { IfOk result (λ read. IfSome read (λ _. Self.hands_in)) }
         ensures none { IfOk result (λ read. IfNone read (self.new ≡ self.old)) }
         ensures fewer { IfOk result
             (λ read. IfSome read
             (λ _. Self.entries_left self.new < Self.entries_left self.old)) }
+        // of an entry that finds nobody, and is then given up, nothing was told
+        ensures handed { IfOk result (λ read. IfSome read (λ _. Self.loses self.old self.new)) }
         ensures lost { IfErr result (λ _. Self.loses self.old self.new) };
 }
 
@@ -225,6 +229,9 @@ pub fn open_moves<O: Mover>(
         (tree_of tree.old) outside limit result.0)) }
     ensures moved { IfOk result.1 (λ x. Moved O.goes (language (marks_of tree.old).integers)
         (tree_of tree.old) outside limit (result_of x) (tree_of tree.new) result.0) }
+    ensures denied { IfOk result.1
+        (λ x. x ≡ Denied → IsDenied O.goes (tree_of tree.old) outside limit result.0) }
+    ensures bounded { IfOk result.1 (λ _. root_count tree.new ≤ root_count tree.old + limit) }
     ensures ends { IfOk result.1 (λ x. x ≡ Finished → O.hands_next result.0 ≡ false) }
 {
     if let Some(refused) = refusal(tree, limit) {
@@ -317,7 +324,7 @@ fn live<M: Mover>(
 }
 
 /// Evaluates one entry, which was handed in for the interpreter at the path, and tells the outside
-/// how it ended. The status, where that was an exit.
+/// how it ended, or that nobody is there. The status, where it ended by an exit.
 ///
 /// # Errors
 /// Want of memory.
@@ -328,17 +335,48 @@ fn live_through<M: Mover>(
     target: Vec<Text>,
     entry: Entry,
 ) -> Result<Option<i64>, AllocError>
-    ensures serves { IfOk result
-        (λ x. Serves M.goes (marks_of tree.old).integers (tree_of tree.old) outside.old target.items
-        (whole_entry entry) (tree_of tree.new) outside.new (last_end x)) }
+    requires hands { M.hands_in }
+    ensures comes { IfOk result
+        (λ x. ComesOf M.goes (marks_of tree.old).integers (tree_of tree.old) outside.old
+        target.items (whole_entry entry) (tree_of tree.new) outside.new (last_end x)) }
     ensures given_up { IfErr result
-        (λ _. GivesUpIn (ways M.goes M.loses) (marks_of tree.old).integers (tree_of tree.old)
+        (λ _. GivesUpOn (ways M.goes M.loses) (marks_of tree.old).integers (tree_of tree.old)
         outside.old target.items (whole_entry entry) outside.new) }
     ensures steady { IsSteady tree.old tree.new }
     ensures left { M.entries_left outside.new ≤ M.entries_left outside.old }
 {
     let path = target.as_slice();
-    let ended = enter(tree, alloc, outside, path, entry);
+    let Some(place) = tree.place(path) else {
+        miss_entry(tree, alloc, outside, path, &entry)?;
+        return Ok(None);
+    };
+    live_in(tree, alloc, outside, path, place, entry)
+}
+
+/// Evaluates one entry for the interpreter at the path, which the place names, and tells the
+/// outside how it ended. The status, where that was an exit.
+///
+/// # Errors
+/// Want of memory.
+fn live_in<M: Mover>(
+    tree: &mut Tree,
+    alloc: Global,
+    outside: &mut M,
+    path: &[Text],
+    place: Place,
+    entry: Entry,
+) -> Result<Option<i64>, AllocError>
+    requires there { Names tree.old place path.now }
+    ensures serves { IfOk result
+        (λ x. Serves M.goes (marks_of tree.old).integers (tree_of tree.old) outside.old path.now
+        (whole_entry entry) (tree_of tree.new) outside.new (last_end x)) }
+    ensures given_up { IfErr result
+        (λ _. GivesUpIn (ways M.goes M.loses) (marks_of tree.old).integers (tree_of tree.old)
+        outside.old path.now (whole_entry entry) outside.new) }
+    ensures steady { IsSteady tree.old tree.new }
+    ensures left { M.entries_left outside.new ≤ M.entries_left outside.old }
+{
+    let ended = enter(tree, alloc, outside, path, place, entry);
     let done = Happening::EntryDone {
         target: path,
         ended: &ended,

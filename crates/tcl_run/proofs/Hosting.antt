@@ -70,16 +70,16 @@ module _ {S : Type 0} (step : S → Request → HostReply → S → Type 0) wher
   pub heard_answers : (T : Tree Own) (o u : S) (p : Place) (d : ℕ) (q : Request) (a : HostReply) → step o q a u → is_reply_to a q ≡ true → AnswersFor (hosted step) T o p d None (AskHost (request_of q)) u (Heard (reply_of a))
   heard_answers T o u p d q a made fits = (heard_told T o u p d (gone d T p) q a made, told_fits d T p None (AskHost (request_of q)) (Heard (reply_of a)) refl (own_reply a q fits))
 
-  nobody_told : (T : Tree Own) (o : S) (p : Place) (n d : ℕ) (i : Entry) (g : Option ℕ) (h : Option Place) → h ≡ None → passing h (hosted_at step) T o (Some (Some n, i, d)) (event p (Back (Some n) (told_to g Nobody))) o
-  nobody_told T o p n d i None h e = subst (λ (x : Option Place). passing x (hosted_at step) T o (Some (Some n, i, d)) (event p (Back (Some n) Nobody)) o) (sym e) refl
-  nobody_told T o p n d i (Some l) h e = subst (λ (x : Option Place). passing x (hosted_at step) T o (Some (Some n, i, d)) (event p (Back (Some n) (told_to (Some l) Nobody))) o) (sym e) refl
+  nobody_told : (T : Tree Own) (o : S) (p : Place) (n d : ℕ) (i : Entry) (g : Option ℕ) (h : Option Place) → h ≡ None → gone d T p ≡ g → passing h (hosted_at step) T o (Some (Some n, i, d)) (event p (Back (Some n) (told_to g Nobody))) o
+  nobody_told T o p n d i None h e f = subst (λ (x : Option Place). passing x (hosted_at step) T o (Some (Some n, i, d)) (event p (Back (Some n) Nobody)) o) (sym e) refl
+  nobody_told T o p n d i (Some l) h e f = subst (λ (x : Option Place). passing x (hosted_at step) T o (Some (Some n, i, d)) (event p (Back (Some n) (told_to (Some l) Nobody))) o) (sym e) (f, refl)
 
   pub nobody_answers : (T : Tree Own) (o : S) (p : Place) (n d : ℕ) (i : Entry) → rise n p ≡ None → AnswersFor (hosted step) T o p d (Some n) i o Nobody
-  nobody_answers T o p n d i up = (back (gone d T p), told_fits d T p (Some n) i Nobody up refl)
+  nobody_answers T o p n d i up = (back (gone d T p) refl, told_fits d T p (Some n) i Nobody up refl)
     where
-      back : (g : Option ℕ) → hosted step T o (Some (Some n, i, d)) (event p (Back (Some n) (told_to g Nobody))) o
-      back None = nobody_told T o p n d i None (rise n p) up
-      back (Some l) = nobody_told T o p n d i (Some l) (rise n p) up
+      back : (g : Option ℕ) → gone d T p ≡ g → hosted step T o (Some (Some n, i, d)) (event p (Back (Some n) (told_to g Nobody))) o
+      back None f = nobody_told T o p n d i None (rise n p) up f
+      back (Some l) f = nobody_told T o p n d i (Some l) (rise n p) up f
 
   -- a host is asked for requests, and answers nothing else
   pub nobody_comes : (T : Tree Own) (o : S) (p : Place) (d : ℕ) (h : Height) (i : CodeEntry) → IsAsked h (whole_entry i) → ((q : Request) → h ≡ None → i ≡ entry.AskHost q → Prim.⊥) → rise_to h p ≡ None → AnswersFor (hosted step) T o p d h (whole_entry i) o Nobody

@@ -9,7 +9,7 @@ use Rattle.tcl_core.specs.Entries.Entry.{AskHost}
 use Rattle.tcl_core.specs.Entries.HostReply.{Opened, Line, TheEnd, TheRest, Accepted, Is, Fails}
 use Rattle.tcl_core.specs.Paths.{Path, Place, Height}
 use Rattle.tcl_core.specs.Programs.{Wait}
-use Rattle.tcl_core.specs.Runs.{ended, gone, is_told}
+use Rattle.tcl_core.specs.Runs.{ended, gone, gone_from, is_told}
 use Rattle.tcl_core.specs.Execution.{event, past_top}
 use Rattle.tcl_core.specs.Trees.{Event, Tree, What}
 use Rattle.tcl_core.specs.Trees.What.{Out, In, Done, Back, Refused}
@@ -121,21 +121,22 @@ OnEntry r P = Unit {0}
 -- ## A host as the outside
 
 -- The host makes a step for each request by its reply, which a caller that is gone isn't told. It
--- hands in nothing, and above the tree no interpreter is.
-abbrev pub hosted_by : {S : Type 0} → (S → TheirRequest → TheirReply → S → Type 0) → S → Wait →
-    What Own → S → Type 0
-hosted_by step o (Some (None, AskHost request, d)) (Back h (Heard a)) u = (q : TheirRequest) ×
+-- hands in nothing, and above the tree no interpreter is. g says whether the caller is gone.
+abbrev pub hosted_by : {S : Type 0} → (S → TheirRequest → TheirReply → S → Type 0) → Option ℕ → S →
+    Wait → What Own → S → Type 0
+hosted_by step g o (Some (None, AskHost request, d)) (Back h (Heard a)) u = (q : TheirRequest) ×
     (reply : TheirReply) × (request_of q ≡ request) × (reply_of reply ≡ a) × step o q reply u
-hosted_by step o (Some (None, AskHost request, d)) (Back h (Replied (Stop n Gone))) u =
+hosted_by step g o (Some (None, AskHost request, d)) (Back h (Replied (Stop n Gone))) u =
     (q : TheirRequest) × (reply : TheirReply) × (request_of q ≡ request) × step o q reply u
-hosted_by step o (Some (Some up, i, d)) (Back h Nobody) u = u ≡ o
-hosted_by step o (Some (Some up, i, d)) (Back h (Replied (Stop n Gone))) u = u ≡ o
-hosted_by step o s (Out h down i) u = u ≡ o
-hosted_by step o s (Done h r) u = u ≡ o
-hosted_by step o s _ u = Prim.⊥
+hosted_by step g o (Some (Some up, i, d)) (Back h Nobody) u = u ≡ o
+hosted_by step g o (Some (Some up, i, d)) (Back h (Replied (Stop n Gone))) u = (g ≡ Some n) ×
+    (u ≡ o)
+hosted_by step g o s (Out h down i) u = u ≡ o
+hosted_by step g o s (Done h r) u = u ≡ o
+hosted_by step g o s _ u = Prim.⊥
 
 abbrev pub hosted_at : {S : Type 0} → (S → TheirRequest → TheirReply → S → Type 0) → Going S
-hosted_at step T o s ev u = hosted_by step o s ev.what u
+hosted_at step T o s ev u = hosted_by step (gone_from s T ev.place) o s ev.what u
 
 -- and it refuses no step
 abbrev pub unrefused : What Own → Type 0 → Type 0

@@ -4,13 +4,13 @@ use Rattle.tcl_core.specs.Endings.{Reply}
 use Rattle.tcl_core.specs.Endings.Reply.{Completed, Stop, Exit, Cut}
 use Rattle.tcl_core.specs.Entries.{Answer}
 use Rattle.tcl_core.specs.Entries.Entry.{Eval}
-use Rattle.tcl_core.specs.Lives.{End, Whole, IsUncut, comes, count_at, end_at, limited, outs_of}
+use Rattle.tcl_core.specs.Lives.{End, Whole, IsUncut, comes, end_at, limited, outs_of}
 use Rattle.tcl_core.specs.Paths.{Path, Place, Text, rise_to}
 use Rattle.tcl_core.specs.Programs.{Prog, Table}
 use Rattle.tcl_core.specs.Rules.{Derives}
-use Rattle.tcl_core.specs.Runs.{Runs, World, entering}
+use Rattle.tcl_core.specs.Runs.{Runs, World}
 use Rattle.tcl_core.specs.Execution.{Crossings, event}
-use Rattle.tcl_core.specs.Trees.{Event, Node, Tree, What, granted, paid, with_limit}
+use Rattle.tcl_core.specs.Trees.{Event, Node, Tree, What, granted, paid}
 use Rattle.tcl_core.specs.Trees.Grants.{Budget}
 use Rattle.tcl_core.specs.Trees.What.{Charged, Nested, Refused, In, Done}
 use Rattle.tcl_core.specs.Views.{steps_of}
@@ -21,7 +21,7 @@ use Rattle.tcl_core.proofs.RuleLaws.{derived_runs, runs_derived}
 use Rattle.tcl_core.proofs.SameRuns.{asked-inj}
 use Rattle.tcl_core.proofs.Unended.{NotCut}
 use Rattle.tcl_core.proofs.TreeLaws.{denied_budget}
-use Rattle.tcl_core.proofs.Callers.{entering_calls, fit}
+use Rattle.tcl_core.proofs.Callers.{fit}
 use Rattle.tcl_partial_runs.specs.Beginnings.{Begins, BeginsEach, Begun, allowed, handed, handing}
 use Rattle.tcl_partial_runs.proofs.Begins.{begins}
 use Rattle.tcl_host.specs.declared.reply.HostReply.{HostReply as TheirReply}
@@ -59,7 +59,7 @@ module _ {O : Type 0} where
 module _ {I S : Type 0} (step : S → TheirRequest → TheirReply → S → Type 0) (prog : Table Own I) (T : Tree Own) (p : Path) (s : Text) (n : ℕ) where
   -- the script, as the entry of the evaluation
   abbrev script : Prog Own I
-  script = entering prog (limited n T p) (Eval s)
+  script = prog.entry (Eval s)
 
   -- a whole evaluation that is handed what these happenings read begins with them
   module _ {R : Type 0} (goes : _) {o z : R} (b : BeginsEach {O = Own} {I = I} {S = R} goes prog (limited n T) o p script z) (replies more : List Answer) (ending : End) (all : List (Event Own)) (V : Tree Own)
@@ -112,7 +112,7 @@ module _ {I S : Type 0} (step : S → TheirRequest → TheirReply → S → Type
   -- what a host was asked until the script was given up is what the whole evaluation begins with
   pub is_beginning : {o z : S} → Begun (Crossings (hosted step)) prog (limited n T) o p script z → IsBeginning step prog T p s n o z
   is_beginning {o} {z} begun =
-      let b : BeginsEach (keeps_call step) prog (limited n T) (o, None) p script (z, None) = begins (keeps_call step) prog (fit script (entering_calls prog (limited n T p) (Eval s))) (kept step prog begun (entering_calls prog (limited n T p) (Eval s))) in
+      let b : BeginsEach (keeps_call step) prog (limited n T) (o, None) p script (z, None) = begins (keeps_call step) prog (fit script (prog.entries_call (Eval s))) (kept step prog begun (prog.entries_call (Eval s))) in
       let h : Hosts step (o, None) b.told z = hosts step (limited n T) b.last (o, None) (z, None) b.told b.chain refl in
       record {
         replies = h.replies;
@@ -121,14 +121,7 @@ module _ {I S : Type 0} (step : S → TheirRequest → TheirReply → S → Type
         begins = λ more ending all V whole. whole_begins (keeps_call step) b h.replies more ending all V h.calm (h.moves more) whole;
       }
 
+-- the same with the commands of the language
 module _ {S : Type 0} (step : S → TheirRequest → TheirReply → S → Type 0) (style : Integers) (T : Tree Own) (p : Path) (s : Text) (n : ℕ) (there : Node Own) where
-  -- whoever stands, does with the limit too
-  limited_there : (q : Path) → T q ≡ Some there → (m : Node Own) × (limited n T q ≡ Some m)
-  limited_there [] e = (_, ap (with_limit (Some (count_at (T []) + n))) e)
-  limited_there (x ∷ q) e = (there, e)
-
-  -- the same with the commands of the language
   pub script_begins : {o z : S} → T p ≡ Some there → Begun (Crossings (hosted step)) (language style) (limited n T) o p (serve style (Eval s)) z → IsBeginning step (language style) T p s n o z
-  script_begins {o} {z} e begun =
-      let m = limited_there p e in
-      is_beginning step (language style) T p s n (subst (λ a. Begun (Crossings (hosted step)) (language style) (limited n T) o p (entering (language style) a (Eval s)) z) (sym m.1) begun)
+  script_begins e begun = is_beginning step (language style) T p s n begun

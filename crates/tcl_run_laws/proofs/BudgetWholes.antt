@@ -1,28 +1,46 @@
 -- What the laws of the core say of a whole evaluation.
-use Rattle.std.proofs.Common.{◌≡◌, ◌∙◌, ℕ, ◌≤◌, ◌+◌, Bool, List, [], ◌∷◌, ◌++◌, Option, Some, None, refl, sym, ap, subst, arith}
+use Rattle.std.proofs.Common.{◌≡◌, ◌∙◌, ◌⊎◌, inl, inr, ℕ, ◌≤◌, ◌+◌, Bool, true, false, ◌&&◌, List, [], ◌∷◌, ◌++◌, Option, Some, None, refl, sym, ap, subst, arith}
 use Rattle.tcl_core.specs.Entries.{Answer}
 use Rattle.tcl_core.specs.Entries.Entry.{Eval}
-use Rattle.tcl_core.specs.Laws.{AsLimited, IsHeld, IsSpared, IsSteady, IsUpright, KeepsTop, Lasts, depth_of}
+use Rattle.tcl_core.specs.Laws.{AsLimited, IsHeld, IsSpared, IsSteady, IsUpright, KeepsTop, Lasts, Spares, depth_left, is_spared, none_there, spares}
 use Rattle.tcl_core.specs.Lives.{End, Lives, Whole, alone, comes, count_at, idle, limit_at, limited, never, unlimited}
 use Rattle.tcl_core.specs.Paths.{Path, Place, Text}
 use Rattle.tcl_core.specs.Programs.{Table}
 use Rattle.tcl_core.specs.Programs.Prog.{wait}
-use Rattle.tcl_core.specs.Runs.{World, entering}
+use Rattle.tcl_core.specs.Runs.{World}
 use Rattle.tcl_core.specs.Tables.{Keeps_to, unlimiting}
-use Rattle.tcl_core.specs.Trees.{Event, Node, Tree, What, paid, seen_what}
+use Rattle.tcl_core.specs.Trees.{Event, Node, Tree, What, depth_of, paid, seen_what}
 use Rattle.tcl_core.specs.Trees.Move.{Enter}
-use Rattle.tcl_core.specs.Trees.What.{Charged}
+use Rattle.tcl_core.specs.Trees.What.{Charged, Dropped}
 use Rattle.tcl_core.specs.Views.{steps_of, view}
 use Rattle.tcl_core.proofs.Counts.{bounded, counting, limiting, standing}
 use Rattle.tcl_core.proofs.Depths.{steady}
 use Rattle.tcl_core.proofs.Reacting.{life_of}
 use Rattle.tcl_core.proofs.Safeguards.{limits_kept}
 use Rattle.tcl_core.proofs.Stops.{stopping}
-use Rattle.tcl_run_laws.specs.Budgets.{CountsRise, CountsStayWithin, DepthsComeBack, IsNested, IsOrderly, LimitsStay, StopsAreObeyed}
+use Rattle.tcl_run_laws.specs.Budgets.{CountsRise, CountsStayWithin, DepthsComeBack, DepthsStay, IsNested, IsOrderly, LimitsStay, StopsAreObeyed}
 use Rattle.tcl_run_laws.proofs.Orders.{nested_at_rest, nested_relimited, orderly_relimited, root_limit, same_depth, still_there, upright_of}
 use Rattle.tcl_run_laws.proofs.Spared.{comes_keep, root_spared}
 
+-- what is left of a depth is all of it, or nothing; and nothing of none
+same_or_none : (b : Bool) (d v : ℕ) → v ≡ depth_left b d → (v ≡ d) ⊎ (v ≡ 0)
+same_or_none true d v e = inl e
+same_or_none false d v e = inr e
+
+none_left : (b : Bool) (d v : ℕ) → v ≡ depth_left b d → d ≡ 0 → v ≡ 0
+none_left true d v e f = e ∙ f
+none_left false d v e f = e
+
 module _ {O : Type 0} where
+  -- who isn't dropped by these isn't by the first of them
+  spared_so : (q p : Place) (x : What O) → Spares q p x → spares q p x ≡ true
+  spared_so q p Dropped f = ap none_there f
+  spared_so q p x f = refl
+
+  spared_first : (q : Place) (a b : List (Event O)) → IsSpared q (a ++ b) → is_spared q a ≡ true
+  spared_first q [] b f = refl
+  spared_first q (ev ∷ a) b (f, g) = ap (λ y. y && is_spared q a) (spared_so q ev.place ev.what f) ∙ spared_first q a b g
+
   paid_seen : (q : Place) (x : What O) (k : ℕ) → paid (seen_what q x) k ≡ paid x k
   paid_seen q Charged k = refl
   paid_seen q x k = refl
@@ -105,20 +123,28 @@ module _ {O I : Type 0} (prog : Table O I) (T V : Tree O) (p : Path) (s : Text) 
     still : IsNested T → IsSteady w.run.entered w.run.left (Some w.reply)
     still nested =
         let entered : KeepsTop w.run.entered.moves = subst KeepsTop w.run.entry.moves (held []) in
-        steady prog w.run.entered w.run.left p (entering prog (limited n T p) (Eval s)) (Some w.reply) w.run.run
+        steady prog w.run.entered w.run.left p (prog.entry (Eval s)) (Some w.reply) w.run.run
         (subst IsUpright (sym w.run.entry.tree) (upright_of (limited n T) orderly (nested_relimited raised T nested))) entered
 
-    same_depths : IsNested T → (q : Place) → depth_of (V q) ≡ depth_of (T q)
-    same_depths nested q =
+    left_depths : (nested : IsNested T) (q : Place) → depth_of (V q) ≡ depth_left (is_spared q (still nested).made) (depth_of (T q))
+    left_depths nested q =
         ap depth_of (left_at q)
         ∙ same_depth (limit_at (T [])) w.last.tree q
         ∙ ap (λ (U : Tree O). depth_of (U q)) w.run.leaving.tree
         ∙ (still nested).depths w.reply refl q
-        ∙ ap (λ (U : Tree O). depth_of (U q)) w.run.entry.tree
-        ∙ same_depth raised T q
+        ∙ ap (depth_left (is_spared q (still nested).made)) (ap (λ (U : Tree O). depth_of (U q)) w.run.entry.tree ∙ same_depth raised T q)
+
+    pub spared_depths : DepthsStay T w.tape V
+    spared_depths nested q f =
+        let after : IsSpared q w.run.entered.tape = (subst (IsSpared q) w.run.entry.tape f).1 in
+        let within : is_spared q (still nested).made ≡ true = spared_first q (still nested).made w.run.left.tape (subst (IsSpared q) (still nested).happened after) in
+        left_depths nested q ∙ ap (λ b. depth_left b (depth_of (T q))) within
 
     pub depths : DepthsComeBack T V
-    depths = record { same = same_depths; rest = λ f q. same_depths (nested_at_rest T f) q ∙ f q }
+    depths = record {
+      same = λ nested q. same_or_none (is_spared q (still nested).made) (depth_of (T q)) (depth_of (V q)) (left_depths nested q);
+      rest = λ f q. (let nested = nested_at_rest T f in none_left (is_spared q (still nested).made) (depth_of (T q)) (depth_of (V q)) (left_depths nested q) (f q));
+    }
 
     pub limits : (modest : I → Bool) → ((limited : Place → Bool) → Keeps_to (unlimiting modest limited) prog) → LimitsStay T w.tape V
     limits modest all [] q below safe spared free = absurd (below refl)

@@ -5,7 +5,7 @@ use Rattle.tcl_core.specs.Endings.Meter.{Count, Depth}
 use Rattle.tcl_core.specs.Endings.Reply.{Cut}
 use Rattle.tcl_core.specs.Endings.Cause.{Above, Over}
 use Rattle.tcl_core.specs.Paths.{Place, Height, rise_to}
-use Rattle.tcl_core.specs.Programs.{Act, Deed, Wait, Wrap, spot, closes, changing, making, dropping, dropping_at, metered, by_limit, blocked, is_spent, is_deep}
+use Rattle.tcl_core.specs.Programs.{Act, Deed, Wait, Wrap, spot, closes, changing, making, dropping, metered, by_limit, blocked, is_spent, is_deep}
 use Rattle.tcl_core.specs.Programs.Act.{Look, Change, Charge, Limit, LimitDepth, Make, Drop}
 use Rattle.tcl_core.specs.Programs.Next.{On, Off}
 use Rattle.tcl_core.specs.Programs.Wrap.{Deeper, Framed}
@@ -13,9 +13,9 @@ use Rattle.tcl_core.specs.Execution.{Crossings, Decides, Opens_so, event, passin
 use Rattle.tcl_core.specs.Trees.{Event, Grants, Node, Tree, What, granted}
 use Rattle.tcl_core.specs.Trees.Grant.{Allow, Deny}
 use Rattle.tcl_core.specs.Trees.Grants.{Listed, Budget}
-use Rattle.tcl_core.specs.Trees.What.{Seen, Charged, Refused, Nested, Limited, DepthLimited, Out, In, Done, Back}
+use Rattle.tcl_core.specs.Trees.What.{Seen, Charged, Refused, Nested, Limited, DepthLimited, Out, In, Done, Back, Unfound}
 use Rattle.tcl_core.proofs.PathLaws.{not_both, Some-inj, rise_some, child_no_top}
-use Rattle.tcl_core.proofs.TreeLaws.{blocked_near}
+use Rattle.tcl_core.proofs.TreeLaws.{any_close, blocked_near}
 use Rattle.tcl_core.proofs.Unended.{IsNoCut}
 use Rattle.tcl_host.specs.declared.reply.HostReply.{HostReply as TheirReply}
 use Rattle.tcl_host.specs.declared.request.Request.{Request as TheirRequest}
@@ -43,6 +43,7 @@ module _ {S : Type 0} (step : S → TheirRequest → TheirReply → S → Type 0
   unheard T o s p (Done h r) u f g = passed_by h p T o s (event p (Done h r)) u f g.told
   unheard T o s p (Refused m None) u f g = absurd g.told
   unheard T o s p (Refused m (Some n)) u f g = g.told
+  unheard T o s p (Unfound t i c) u f g = absurd f
   unheard T o s p x u f g = g.told
 
   -- what it comes to
@@ -83,11 +84,7 @@ module _ {S : Type 0} (step : S → TheirRequest → TheirReply → S → Type 0
 
   dropping_near : (p : Place) (name : List ℕ) (n : Option (Node Own)) → IsNear p (dropping name n)
   dropping_near p name None = record { near = tt; uncut = tt }
-  dropping_near p name (Some n) = by n.depth
-    where
-      by : (d : ℕ) → IsNear p (dropping_at {O = Own} name d)
-      by zero = record { near = child_no_top p name; uncut = tt }
-      by (suc d) = record { near = tt; uncut = tt }
+  dropping_near p name (Some n) = record { near = child_no_top p name; uncut = tt }
 
   pub decides_near : (d : Act Own) (T : Tree Own) (o : S) (p : Place) (u : S) (x : Deed Own) → (p ≡ [] → SetsNone d) → Decides d T p x → Told T o p u x
   decides_near Look T o p u x f e = of_deed T o p u (None, Seen, On) x (λ t. record { near = tt; uncut = tt }) (e [])
@@ -102,7 +99,5 @@ module _ {S : Type 0} (step : S → TheirRequest → TheirReply → S → Type 0
   opens_near Deeper T o p u x e = metered_near T o p u is_deep Depth Nested (blocked is_deep T p) (granted (spot p x.0) x.1 (Listed [])) x refl tt (e [])
   opens_near (Framed own back) T o p u x e = of_deed T o p u (changing own (T p)) x (λ t. changing_near p own (T p)) (e [])
 
-  pub closes_near : (p : Place) (b : Wrap Own) (n : Option (Node Own)) → Near p (closes b n)
-  closes_near p Deeper n = tt
-  closes_near p (Framed own back) None = tt
-  closes_near p (Framed own back) (Some n) = tt
+  pub closes_near : (p : Place) (b : Wrap Own) (m n : Option (Node Own)) → Near p (closes b m n)
+  closes_near p b m n = any_close (Near p) b m n tt tt (λ own. tt)

@@ -1,9 +1,10 @@
 -- A host as the outside, with the call that is open to it: what it is told in order belongs to it.
 use Rattle.std.proofs.Common.{◌≡◌, refl, sym, ◌∙◌, ap, subst, ℕ, List, [], ◌∷◌, Some, None}
-use Rattle.tcl_core.specs.Endings.{Reply, error}
+use Rattle.tcl_core.specs.Endings.{Reply}
+use Rattle.tcl_core.specs.Endings.Kind.{Gone}
 use Rattle.tcl_core.specs.Endings.Reply.{Completed, Stop, Exit, Cut}
 use Rattle.tcl_core.specs.Entries.{Answer, Entry}
-use Rattle.tcl_core.specs.Entries.Answer.{Replied, Heard}
+use Rattle.tcl_core.specs.Entries.Answer.{Replied, Heard, Nobody}
 use Rattle.tcl_core.specs.Entries.Entry.{AskHost}
 use Rattle.tcl_core.specs.Laws.{IsSpared, IsLowering}
 use Rattle.tcl_core.specs.Lives.{IsUncut, Uncut, comes, outs_of, put}
@@ -15,10 +16,9 @@ use Rattle.tcl_core.specs.Trees.What.{Out, Done, Back}
 use Rattle.tcl_core.specs.Trees.Move.{Come}
 use Rattle.tcl_core.specs.Views.{moves_of}
 use Rattle.tcl_core.proofs.Unended.{NotCut}
-use Rattle.tcl_run_laws.specs.Replies.{Belongs, over, ended, served, missed}
+use Rattle.tcl_run_laws.specs.Replies.{Belongs, over, ended, served, untold, missed, missed_untold}
 use Rattle.tcl_host.specs.declared.reply.HostReply.{HostReply as TheirReply}
 use Rattle.tcl_host.specs.declared.request.Request.{Request as TheirRequest}
-use Rattle.tcl_language.specs.Interpreters.{no_interpreter}
 use Rattle.tcl_run.specs.Entering.{request_of}
 use Rattle.tcl_run.specs.Outsides.{reply_of}
 use Rattle.tcl_tree.specs.Own.{Own}
@@ -36,11 +36,13 @@ module _ {S : Type 0} (step : S → TheirRequest → TheirReply → S → Type 0
   -- how the host goes, and the call that is open
   pub data Goes (w : Holding S) (p : Place) (x : What Own) (v : Holding S) : Type 0 where
     within : Near p x → v ≡ w → Goes w p x v
-    asks : (h : Height) (down : Path) (i : Entry) → x ≡ Out h down i → rise_to h p ≡ None → w.open_call ≡ None → v ≡ holding w.state (Some (h, i)) → Goes w p x v
-    hears : (request : TheirRequest) (reply : TheirReply) → x ≡ Back None (Heard (reply_of reply)) → w.open_call ≡ Some (None, AskHost (request_of request)) →
+    asks : (h : Height) (down : Path) (i : Entry) (d : ℕ) → x ≡ Out h down i → rise_to h p ≡ None → w.open_call ≡ None → v ≡ holding w.state (Some (h, i, d)) → Goes w p x v
+    hears : (request : TheirRequest) (reply : TheirReply) (d : ℕ) → x ≡ Back None (Heard (reply_of reply)) → w.open_call ≡ Some (None, AskHost (request_of request), d) →
         step w.state request reply v.state → v.open_call ≡ None → Goes w p x v
-    misses : (n : ℕ) (i : Entry) → x ≡ Back (Some n) (Replied (Completed (error (no_interpreter [])))) → rise_to (Some n) p ≡ None → w.open_call ≡ Some (Some n, i) →
-        v ≡ holding w.state None → Goes w p x v
+    hears_not : (request : TheirRequest) (reply : TheirReply) (d n : ℕ) → x ≡ Back None (Replied (Stop n Gone)) → w.open_call ≡ Some (None, AskHost (request_of request), d) →
+        step w.state request reply v.state → v.open_call ≡ None → Goes w p x v
+    misses : (n : ℕ) (i : Entry) (d : ℕ) → x ≡ Back (Some n) Nobody → rise_to (Some n) p ≡ None → w.open_call ≡ Some (Some n, i, d) → v ≡ holding w.state None → Goes w p x v
+    misses_not : (n : ℕ) (i : Entry) (d l : ℕ) → x ≡ Back (Some n) (Replied (Stop l Gone)) → rise_to (Some n) p ≡ None → w.open_call ≡ Some (Some n, i, d) → v ≡ holding w.state None → Goes w p x v
     ends : (h : Height) (r : Reply) → x ≡ Done h r → rise_to h p ≡ None → NotCut r → w.open_call ≡ None → v ≡ w → Goes w p x v
 
   abbrev pub keeps_call : Tree Own → Holding S → Wait → Event Own → Holding S → Type 0
@@ -69,10 +71,10 @@ module _ {S : Type 0} (step : S → TheirRequest → TheirReply → S → Type 0
     lowering = λ l. (lowers_near p x f l, h.lowering l);
   }
 
-  asks_one : (w v : Holding S) (p : Place) (h : Height) (down : Path) (i : Entry) (τ : List (Event Own)) (z : S) → rise_to h p ≡ None → w.open_call ≡ None → v ≡ holding w.state (Some (h, i)) →
+  asks_one : (w v : Holding S) (p : Place) (h : Height) (down : Path) (i : Entry) (d : ℕ) (τ : List (Event Own)) (z : S) → rise_to h p ≡ None → w.open_call ≡ None → v ≡ holding w.state (Some (h, i, d)) →
       Hosts v τ z → Hosts w (event p (Out h down i) ∷ τ) z
-  asks_one w v p h down i τ z past idle e g =
-      let open_now : From (Some (h, i)) w.state (outs_of τ) g.replies z = subst (λ (u : Holding S). From u.open_call u.state (outs_of τ) g.replies z) e g.belongs in
+  asks_one w v p h down i d τ z past idle e g =
+      let open_now : From (Some (h, i, d)) w.state (outs_of τ) g.replies z = subst (λ (u : Holding S). From u.open_call u.state (outs_of τ) g.replies z) e g.belongs in
       let outs : outs_of (event p (Out h down i) ∷ τ) ≡ event p (Out h down i) ∷ outs_of τ = ap (λ o. put o p (Out h down i) (outs_of τ)) past in
       record {
         replies = g.replies;
@@ -83,32 +85,24 @@ module _ {S : Type 0} (step : S → TheirRequest → TheirReply → S → Type 0
         lowering = λ l. (tt, g.lowering l);
       }
 
-  hears_one : (w v : Holding S) (p : Place) (request : TheirRequest) (reply : TheirReply) (τ : List (Event Own)) (z : S) → w.open_call ≡ Some (None, AskHost (request_of request)) →
-      step w.state request reply v.state → v.open_call ≡ None → Hosts v τ z → Hosts w (event p (Back None (Heard (reply_of reply))) ∷ τ) z
-  hears_one w v p request reply τ z is_open s idle g =
-      let later : Belongs step v.state (outs_of τ) g.replies z = subst (λ c. From c v.state (outs_of τ) g.replies z) idle g.belongs in
+  -- first the answer to the open call
+  answers_one : (w v : Holding S) (p : Place) (c : Height × Entry × ℕ) (a : Answer) (τ : List (Event Own)) (z : S) → rise_to c.0 p ≡ None → w.open_call ≡ Some c → v.open_call ≡ None → Uncut {O = Own} p (Back c.0 a) →
+      ((B : List Answer) → Belongs step v.state (outs_of τ) B z → (q : Place) (down : Path) → Belongs step w.state (event q (Out c.0 down c.1) ∷ outs_of τ) (a ∷ B) z) →
+      Hosts v τ z → Hosts w (event p (Back c.0 a) ∷ τ) z
+  answers_one w v p c a τ z past is_open idle uncut f g =
+      let later : Belongs step v.state (outs_of τ) g.replies z = subst (λ s. From s v.state (outs_of τ) g.replies z) idle g.belongs in
       record {
-        replies = Heard (reply_of reply) ∷ g.replies;
-        moves = ap (λ ms. Come (Heard (reply_of reply)) ∷ ms) g.moves;
-        belongs = subst (λ c. From c w.state (outs_of τ) (Heard (reply_of reply) ∷ g.replies) z) (sym is_open) (λ q down. served request reply refl s later);
-        uncut = (tt, g.uncut);
+        replies = a ∷ g.replies;
+        moves = ap (λ o. where_none o (Come a) (moves_of τ)) past ∙ ap (λ ms. Come a ∷ ms) g.moves;
+        belongs = subst (λ s. From s w.state (outs_of τ) (a ∷ g.replies) z) (sym is_open) (f g.replies later);
+        uncut = (uncut, g.uncut);
         spared = (tt, g.spared);
         lowering = λ l. (tt, g.lowering l);
       }
 
-  misses_one : (w v : Holding S) (p : Place) (n : ℕ) (i : Entry) (τ : List (Event Own)) (z : S) → rise_to (Some n) p ≡ None → w.open_call ≡ Some (Some n, i) → v ≡ holding w.state None →
-      Hosts v τ z → Hosts w (event p (Back (Some n) (Replied (Completed (error (no_interpreter []))))) ∷ τ) z
-  misses_one w v p n i τ z past is_open e g =
-      let lost : Answer = Replied (Completed (error (no_interpreter []))) in
-      let later : Belongs step w.state (outs_of τ) g.replies z = subst (λ (u : Holding S). From u.open_call u.state (outs_of τ) g.replies z) e g.belongs in
-      record {
-        replies = lost ∷ g.replies;
-        moves = ap (λ o. where_none o (Come lost) (moves_of τ)) past ∙ ap (λ ms. Come lost ∷ ms) g.moves;
-        belongs = subst (λ c. From c w.state (outs_of τ) (lost ∷ g.replies) z) (sym is_open) (λ q down. missed later);
-        uncut = (tt, g.uncut);
-        spared = (tt, g.spared);
-        lowering = λ l. (tt, g.lowering l);
-      }
+  -- where nothing is asked of the host, it stays as it is
+  as_it_was : (w v : Holding S) (outs : List (Event Own)) (B : List Answer) (z : S) → v ≡ holding w.state None → Belongs step v.state outs B z → Belongs step w.state outs B z
+  as_it_was w v outs B z e b = subst (λ (u : Holding S). Belongs step u.state outs B z) e b
 
   done_uncut : (p : Place) (h : Height) (r : Reply) → NotCut r → Uncut {O = Own} p (Done h r)
   done_uncut p h (Completed c) f = tt
@@ -132,9 +126,15 @@ module _ {S : Type 0} (step : S → TheirRequest → TheirReply → S → Type 0
 
   one : (w v : Holding S) (p : Place) (x : What Own) (τ : List (Event Own)) (z : S) → Goes w p x v → Hosts v τ z → Hosts w (event p x ∷ τ) z
   one w v p x τ z (within f e) g = within_one w v p x τ z f e g
-  one w v p x τ z (asks h down i e past idle is) g = subst (λ y. Hosts w (event p y ∷ τ) z) (sym e) (asks_one w v p h down i τ z past idle is g)
-  one w v p x τ z (hears request reply e is_open s idle) g = subst (λ y. Hosts w (event p y ∷ τ) z) (sym e) (hears_one w v p request reply τ z is_open s idle g)
-  one w v p x τ z (misses n i e past is_open is) g = subst (λ y. Hosts w (event p y ∷ τ) z) (sym e) (misses_one w v p n i τ z past is_open is g)
+  one w v p x τ z (asks h down i d e past idle is) g = subst (λ y. Hosts w (event p y ∷ τ) z) (sym e) (asks_one w v p h down i d τ z past idle is g)
+  one w v p x τ z (hears request reply d e is_open s idle) g =
+      subst (λ y. Hosts w (event p y ∷ τ) z) (sym e) (answers_one w v p (None, AskHost (request_of request), d) (Heard (reply_of reply)) τ z refl is_open idle tt (λ B b q down. served request reply refl s b) g)
+  one w v p x τ z (hears_not request reply d n e is_open s idle) g =
+      subst (λ y. Hosts w (event p y ∷ τ) z) (sym e) (answers_one w v p (None, AskHost (request_of request), d) (Replied (Stop n Gone)) τ z refl is_open idle tt (λ B b q down. untold request reply n refl s b) g)
+  one w v p x τ z (misses n i d e past is_open is) g =
+      subst (λ y. Hosts w (event p y ∷ τ) z) (sym e) (answers_one w v p (Some n, i, d) Nobody τ z past is_open (ap (λ (u : Holding S). u.open_call) is) tt (λ B b q down. missed (as_it_was w v (outs_of τ) B z is b)) g)
+  one w v p x τ z (misses_not n i d l e past is_open is) g =
+      subst (λ y. Hosts w (event p y ∷ τ) z) (sym e) (answers_one w v p (Some n, i, d) (Replied (Stop l Gone)) τ z past is_open (ap (λ (u : Holding S). u.open_call) is) tt (λ B b q down. missed_untold l (as_it_was w v (outs_of τ) B z is b)) g)
   one w v p x τ z (ends h r e past f idle is) g = subst (λ y. Hosts w (event p y ∷ τ) z) (sym e) (ends_one w v p h r τ z past f idle is g)
 
   -- What such a host goes through reads its replies alone, which belong to it.
@@ -147,4 +147,4 @@ module _ {S : Type 0} (step : S → TheirRequest → TheirReply → S → Type 0
     spared = tt;
     lowering = λ l. tt;
   }
-  hosts {cs = cs} {ds = ds} T V w v (ev ∷ τ) (more {u = u} a rest) idle = one w u ev.place ev.what τ v.state a (hosts {cs = calls_after ev.place ev.what cs} {ds = ds} (effect ev.place ev.what T) V u v τ rest idle)
+  hosts {cs = cs} {ds = ds} T V w v (ev ∷ τ) (more {u = u} a rest) idle = one w u ev.place ev.what τ v.state a (hosts {cs = calls_after T ev.place ev.what cs} {ds = ds} (effect ev.place ev.what T) V u v τ rest idle)

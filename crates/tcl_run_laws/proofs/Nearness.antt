@@ -4,7 +4,7 @@ use Rattle.tcl_core.specs.Paths.{Place, Height, strip, rise_to}
 use Rattle.tcl_core.specs.Endings.Reply.{Cut}
 use Rattle.tcl_core.specs.Entries.Answer.{Replied}
 use Rattle.tcl_core.specs.Trees.{Tree, Node, What, Event, Move, asked, where_none, at_top, effect, at_end, where_some, on_some, with_own, with_limit, with_depth_limit, counted, deeper, shallower, fresh}
-use Rattle.tcl_core.specs.Trees.What.{Changed, Charged, Refused, Nested, Unnested, Limited, DepthLimited, Made, Dropped, Out, In, Done, Back}
+use Rattle.tcl_core.specs.Trees.What.{Changed, Charged, Refused, Nested, Unnested, Limited, DepthLimited, Made, Dropped, Out, In, Done, Back, Unfound}
 use Rattle.tcl_core.specs.Trees.Move.{Enter, Come, Born, Fall}
 use Rattle.tcl_core.specs.Lives.{put, told, Uncut}
 use Rattle.tcl_core.specs.Laws.{Spares, Lowers}
@@ -15,7 +15,7 @@ use Rattle.tcl_run_laws.specs.Limits.{HasTop}
 abbrev pub Inside : Height → Place → Type 0
 Inside h p = (a : Place) × (rise_to h p ≡ Some a)
 
--- it crosses no boundary of the tree, and of its top neither makes nor drops it, nor sets its limit of steps
+-- it crosses no boundary of the tree, is no entry from outside that finds nobody, and of the tree's top neither makes nor drops it, nor sets its limit of steps
 abbrev pub Near : {O : Type 0} → Place → What O → Type 0
 Near p (Refused m h) = Inside h p
 Near p (Out h down i) = Inside h p
@@ -25,6 +25,7 @@ Near p (Done h r) = Inside h p
 Near p (Made o s) = p ≡ [] → Prim.⊥
 Near p Dropped = p ≡ [] → Prim.⊥
 Near p (Limited l) = p ≡ [] → Prim.⊥
+Near p (Unfound t i c) = Prim.⊥
 Near p _ = Unit {0}
 
 below : (p : Place) → (p ≡ [] → Prim.⊥) → strip p [] ≡ None
@@ -42,12 +43,14 @@ module _ {O : Type 0} where
   asked_near p (Back h r) (a, e) ms = ap (λ o. where_none o (Come r) ms) e
   asked_near p (Made o s) f ms = not_top p (Born o s) ms f
   asked_near p Dropped f ms = not_top p Fall ms f
+  asked_near p (Unfound t i c) f ms = absurd f
   asked_near p x f ms = refl
 
   -- nothing is told
   pub told_near : (p : Place) (x : What O) → Near p x → (τ : List (Event O)) → told p x τ ≡ τ
   told_near p (Out h down i) (a, e) τ = ap (λ o. put o p (Out h down i) τ) e
   told_near p (Done h r) (a, e) τ = ap (λ o. put o p (Done h r) τ) e
+  told_near p (Unfound t i c) f τ = absurd f
   told_near p x f τ = refl
 
   -- nothing is cut off

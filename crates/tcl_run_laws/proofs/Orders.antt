@@ -1,9 +1,9 @@
 -- Orderly trees, and trees whose root has another limit of steps.
 use Rattle.std.proofs.Common.{◌≡◌, ◌∙◌, ℕ, ◌≤◌, [], ◌∷◌, Option, Some, None, refl, sym, ap, arith}
-use Rattle.tcl_core.specs.Laws.{Beneath, IsSafeBelow, IsUpright, depth_of}
+use Rattle.tcl_core.specs.Laws.{Beneath, IsSafeBelow, IsUpright}
 use Rattle.tcl_core.specs.Lives.{count_at, limit_at}
 use Rattle.tcl_core.specs.Paths.{Place}
-use Rattle.tcl_core.specs.Trees.{Node, Tree, on_node, with_limit}
+use Rattle.tcl_core.specs.Trees.{Node, Tree, depth_of, on_node, with_limit}
 use Rattle.tcl_core.proofs.PathLaws.{not_both, Some-inj}
 use Rattle.tcl_run_laws.specs.Budgets.{IsAtRest, IsNested, IsOrderly}
 

@@ -5,7 +5,7 @@ use Rattle.tcl_core.specs.Endings.Meter.{Count, Depth}
 use Rattle.tcl_core.specs.Endings.Reply.{Cut}
 use Rattle.tcl_core.specs.Endings.Cause.{Above, Over}
 use Rattle.tcl_core.specs.Paths.{Place}
-use Rattle.tcl_core.specs.Programs.{Act, Deed, Wrap, spot, closes, changing, making, dropping, dropping_at, metered, by_limit, blocked, is_spent, is_deep}
+use Rattle.tcl_core.specs.Programs.{Act, Deed, Wrap, spot, closes, changing, making, dropping, metered, by_limit, blocked, is_spent, is_deep}
 use Rattle.tcl_core.specs.Programs.Act.{Look, Change, Charge, Limit, LimitDepth, Make, Drop}
 use Rattle.tcl_core.specs.Programs.Next.{On, Off}
 use Rattle.tcl_core.specs.Programs.Wrap.{Deeper, Framed}
@@ -13,11 +13,12 @@ use Rattle.tcl_core.specs.Execution.{Decides, Opens_so}
 use Rattle.tcl_core.specs.Trees.{Grants, Node, Tree, What, granted}
 use Rattle.tcl_core.specs.Trees.Grant.{Allow, Deny}
 use Rattle.tcl_core.specs.Trees.Grants.{Listed, Budget}
-use Rattle.tcl_core.specs.Trees.What.{Seen, Charged, Refused, Nested, Limited, DepthLimited, Made, Dropped, Out, In, Done, Back}
+use Rattle.tcl_core.specs.Trees.What.{Seen, Charged, Refused, Nested, Limited, DepthLimited, Made, Dropped, Out, In, Done, Back, Unfound}
 use Rattle.tcl_core.proofs.PathLaws.{not_both, Some-inj, child_no_top}
+use Rattle.tcl_core.proofs.TreeLaws.{any_close}
 use Rattle.tcl_run_laws.proofs.Nearness.{Inside}
 
--- it crosses no boundary of the tree, and neither makes nor drops its top
+-- it crosses no boundary of the tree, is no entry from outside that finds nobody, and neither makes nor drops the tree's top
 abbrev pub Placed : {O : Type 0} → Place → What O → Type 0
 Placed p (Out h down i) = Inside h p
 Placed p (Back h a) = Inside h p
@@ -25,6 +26,7 @@ Placed p (In h i) = Inside h p
 Placed p (Done h r) = Inside h p
 Placed p (Made o s) = p ≡ [] → Prim.⊥
 Placed p Dropped = p ≡ [] → Prim.⊥
+Placed p (Unfound t i c) = Prim.⊥
 Placed p _ = Unit {0}
 
 module _ {O : Type 0} where
@@ -55,11 +57,7 @@ module _ {O : Type 0} where
 
   dropping_placed : (p : Place) (name : List ℕ) (n : Option (Node O)) → IsPlaced p (dropping name n)
   dropping_placed p name None = tt
-  dropping_placed p name (Some n) = by n.depth
-    where
-      by : (d : ℕ) → IsPlaced p (dropping_at {O = O} name d)
-      by zero = child_no_top p name
-      by (suc d) = tt
+  dropping_placed p name (Some n) = child_no_top p name
 
   -- an act
   pub decides_placed : (d : Act O) (T : Tree O) (p : Place) (x : Deed O) → Decides d T p x → Placed (spot p x.0) x.1
@@ -77,7 +75,5 @@ module _ {O : Type 0} where
   opens_placed (Framed own back) T p x e = of_deed p (changing own (T p)) x (changing_placed p own (T p)) (e [])
 
   -- and what it does after
-  pub closes_placed : (p : Place) (b : Wrap O) (n : Option (Node O)) → Placed p (closes b n)
-  closes_placed p Deeper n = tt
-  closes_placed p (Framed own back) None = tt
-  closes_placed p (Framed own back) (Some n) = tt
+  pub closes_placed : (p : Place) (b : Wrap O) (m n : Option (Node O)) → Placed p (closes b m n)
+  closes_placed p b m n = any_close (Placed p) b m n tt tt (λ own. tt)

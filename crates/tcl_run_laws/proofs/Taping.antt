@@ -2,14 +2,14 @@
 use Rattle.std.proofs.Common.{◌≡◌, refl, sym, ◌∙◌, ap, List, [], ◌∷◌, ◌++◌, Some, None, length, append-nil, append_assoc}
 use Rattle.tcl_core.specs.Endings.{Reply}
 use Rattle.tcl_core.specs.Endings.Reply.{Completed, Exit}
-use Rattle.tcl_core.specs.Entries.Answer.{Replied, Heard}
+use Rattle.tcl_core.specs.Entries.Answer.{Replied, Heard, Nobody}
 use Rattle.tcl_core.specs.Paths.{Place}
 use Rattle.tcl_core.specs.Programs.{Prog, Table, Wait, closes, spot}
-use Rattle.tcl_core.specs.Runs.{carried, height_of}
+use Rattle.tcl_core.specs.Runs.{height_of, returned}
 use Rattle.tcl_core.specs.Execution.{Chain, Executes, Open, event, more, none}
-use Rattle.tcl_core.specs.Execution.Executes.{completed, exited, acted, refused, went, passed, wrapped, wrapped_passed, too_deep, shut, called, called_passed, unreached, called_out, answered, heard, answered_passed, entered, entered_exiting}
-use Rattle.tcl_core.specs.Trees.{Event, Tree}
-use Rattle.tcl_core.specs.Trees.What.{Out, In, Done, Back}
+use Rattle.tcl_core.specs.Execution.Executes.{completed, exited, acted, refused, went, passed, wrapped, wrapped_passed, too_deep, shut, called, called_passed, unreached, called_out, answered, heard, missed, answered_passed, entered, entered_exiting, unfound}
+use Rattle.tcl_core.specs.Trees.{Event, Tree, effect}
+use Rattle.tcl_core.specs.Trees.What.{Out, In, Done, Back, Unfound}
 
 -- an outside goes so, and what happens is written behind what happened before
 pub record Taped {O S : Type 0} (step : Tree O → S → Wait → Event O → S → Type 0) (T : Tree O) (o : S × List (Event O)) (s : Wait) (ev : Event O) (u : S × List (Event O)) : Type 0 where
@@ -54,13 +54,13 @@ module _ {O I S : Type 0} (step : Tree O → S → Wait → Event O → S → Ty
       record { tape = h.tape; executes = passed q h.executes }
   tapes (wrapped {T} {U} {V} {o} {o1} {o2} {o3} {z} {p} {b} {i} {k} {c} {r} x is_so on s1 m s2 n) a =
       let first = event (spot p x.0) x.1 in
-      let last = event p (closes b (U p)) in
+      let last = event p (closes b (effect (spot p x.0) x.1 T p) (U p)) in
       let h = tapes m (a ++ first ∷ []) in
       let g = tapes n (h.tape ++ last ∷ []) in
       record { tape = g.tape; executes = wrapped x is_so on (one first a s1) h.executes (one last h.tape s2) g.executes }
   tapes (wrapped_passed {T} {U} {o} {o1} {o2} {o3} {p} {b} {i} {k} {r} x q is_so on s1 m s2) a =
       let first = event (spot p x.0) x.1 in
-      let last = event p (closes b (U p)) in
+      let last = event p (closes b (effect (spot p x.0) x.1 T p) (U p)) in
       let h = tapes m (a ++ first ∷ []) in
       record { tape = h.tape ++ last ∷ []; executes = wrapped_passed x q is_so on (one first a s1) h.executes (one last h.tape s2) }
   tapes (too_deep {T} {V} {o} {u} {z} {p} {b} {i} {k} {r} x is_so deep s t) a =
@@ -74,7 +74,7 @@ module _ {O I S : Type 0} (step : Tree O → S → Wait → Event O → S → Ty
       let out = event p (Out h down i) in
       let in_there = event t (In (Some (length down)) i) in
       let done_there = event t (Done (Some (length down)) s) in
-      let back = event p (Back h (Replied (carried h p down s))) in
+      let back = event p (Back h (Replied (returned T U h p down s))) in
       let f = tapes m ((a ++ out ∷ []) ++ in_there ∷ []) in
       let g = tapes n ((f.tape ++ done_there ∷ []) ++ back ∷ []) in
       record {
@@ -108,21 +108,29 @@ module _ {O I S : Type 0} (step : Tree O → S → Wait → Event O → S → Ty
       let back = event p (Back (height_of s) (Heard y)) in
       let g = tapes t (a ++ back ∷ []) in
       record { tape = g.tape; executes = heard e is_fit (one back a j) g.executes }
+  tapes (missed {T} {V} {o} {u} {z} {p} {s} {k} {r} e is_fit j t) a =
+      let back = event p (Back (height_of s) Nobody) in
+      let g = tapes t (a ++ back ∷ []) in
+      record { tape = g.tape; executes = missed e is_fit (one back a j) g.executes }
   tapes (answered_passed {T} {o} {u} {p} {s} {k} {r} q e is_fit j) a =
       let back = event p (Back (height_of s) (Replied r)) in
       record { tape = a ++ back ∷ []; executes = answered_passed q e is_fit (one back a j) }
-  tapes (entered {T} {U} {V} {o} {o1} {o2} {o3} {z} {p} {s} {k} {y = j} {r} t i e s1 m s2 calm n) a =
+  tapes (entered {T} {U} {V} {o} {o1} {o2} {o3} {z} {p} {s} {k} {node} {y = j} {r} t i e here s1 m s2 calm n) a =
       let in_there = event t (In None i) in
       let done_there = event t (Done None j) in
       let f = tapes m (a ++ in_there ∷ []) in
       let g = tapes n (f.tape ++ done_there ∷ []) in
-      record { tape = g.tape; executes = entered t i e (one in_there a s1) f.executes (one done_there f.tape s2) calm g.executes }
-  tapes (entered_exiting {T} {U} {o} {o1} {o2} {o3} {o4} {p} {c} {k} {n} t i e s1 m s2 s3) a =
+      record { tape = g.tape; executes = entered t i e here (one in_there a s1) f.executes (one done_there f.tape s2) calm g.executes }
+  tapes (entered_exiting {T} {U} {o} {o1} {o2} {o3} {o4} {p} {c} {k} {node} {n} t i e here s1 m s2 s3) a =
       let in_there = event t (In None i) in
       let done_there = event t (Done None (Exit n)) in
       let back = event p (Back c.0 (Replied (Exit n))) in
       let f = tapes m (a ++ in_there ∷ []) in
       record {
         tape = (f.tape ++ done_there ∷ []) ++ back ∷ [];
-        executes = entered_exiting t i e (one in_there a s1) f.executes (one done_there f.tape s2) (one back (f.tape ++ done_there ∷ []) s3);
+        executes = entered_exiting t i e here (one in_there a s1) f.executes (one done_there f.tape s2) (one back (f.tape ++ done_there ∷ []) s3);
       }
+  tapes (unfound {T} {V} {o} {u} {z} {p} {s} {k} {r} t i e nobody s1 n) a =
+      let lost = event [] (Unfound t i (prog.lost t)) in
+      let g = tapes n (a ++ lost ∷ []) in
+      record { tape = g.tape; executes = unfound t i e nobody (one lost a s1) g.executes }

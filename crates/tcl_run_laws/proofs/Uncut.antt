@@ -1,20 +1,20 @@
 -- Where answers alone are handed in, what isn't cut off in the end was nowhere.
-use Rattle.std.proofs.Common.{sym, ◌∷◌, [], List, Option, Some, None, length, subst}
-use Rattle.tcl_core.specs.Endings.{Reply}
+use Rattle.std.proofs.Common.{sym, ℕ, ◌∷◌, [], List, Option, Some, None, length, subst}
+use Rattle.tcl_core.specs.Endings.{Completion, Reply}
 use Rattle.tcl_core.specs.Endings.Reply.{Completed, Stop, Exit, Cut}
 use Rattle.tcl_core.specs.Entries.{Answer, Entry}
 use Rattle.tcl_core.specs.Entries.Answer.{Replied}
 use Rattle.tcl_core.specs.Lives.{IsUncut, Uncut, comes}
 use Rattle.tcl_core.specs.Paths.{Path, Place, Height, rise_to}
 use Rattle.tcl_core.specs.Programs.{Prog, Table, Wrap, closes}
-use Rattle.tcl_core.specs.Programs.Wrap.{Deeper, Framed}
 use Rattle.tcl_core.specs.Rules.{Derives, IsOn}
-use Rattle.tcl_core.specs.Rules.Derives.{completed, exited, acted, refused, unheard, went, passed, halted, wrapped, wrapped_passed, wrapped_halted, too_deep, shut, unheard_inside, called, called_passed, called_halted, unreached, called_out, unanswered, unfit, answered, heard, answered_passed, entered, entered_halted, entered_exiting, born, fallen}
-use Rattle.tcl_core.specs.Runs.{Ending, Step, World, carried, height_of}
-use Rattle.tcl_core.specs.Trees.{Move, Node, What, asked, at_top, where_none}
+use Rattle.tcl_core.specs.Rules.Derives.{completed, exited, acted, refused, unheard, went, passed, halted, wrapped, wrapped_passed, wrapped_halted, too_deep, shut, unheard_inside, called, called_passed, called_halted, unreached, called_out, unanswered, unfit, answered, heard, missed, answered_passed, entered, entered_halted, entered_exiting, unfound, born, fallen}
+use Rattle.tcl_core.specs.Runs.{Ending, Step, World, carried, gone, height_of}
+use Rattle.tcl_core.specs.Trees.{Move, Node, What, asked, at_top, depth_of, where_none}
 use Rattle.tcl_core.specs.Trees.Move.{Born, Fall, Enter, Come}
-use Rattle.tcl_core.specs.Trees.What.{Made, Dropped, In, Done, Back}
+use Rattle.tcl_core.specs.Trees.What.{Made, Dropped, In, Done, Back, Unfound}
 use Rattle.tcl_core.proofs.Keeping.{KeepsSteps, derived_keep}
+use Rattle.tcl_core.proofs.TreeLaws.{any_close}
 use Rattle.tcl_core.proofs.Unended.{NotCut, carried_cut, decide_uncut, opens_uncut, on_no_cut, off_no_cut}
 
 -- the run halts, or isn't cut off
@@ -51,6 +51,7 @@ module _ {O : Type 0} where
   asked_left p (Back h a) ms f = comes_left (rise_to h p) a ms f
   asked_left p (Made o s) ms f = born_left p o s ms f
   asked_left p Dropped ms f = fall_left p ms f
+  asked_left p (Unfound t i c) ms f = absurd f
   asked_left p x ms f = f
 
   next : (w : World O) (p : Place) (x : What O) (u : World O) → Step w p x u → AreAnswers w.moves → AreAnswers u.moves
@@ -59,9 +60,12 @@ module _ {O : Type 0} where
   answers_keep : KeepsSteps {O = O} (λ w. AreAnswers w.moves)
   answers_keep w p x v due s f = next w p x v s f
 
-  -- so no entry comes in, and the tree is neither made nor dropped
+  -- so no entry comes in, none finds nobody, and the tree is neither made nor dropped
   no_entry : {A : Type 0} (w : World O) (t : Place) (i : Entry) (u : World O) → Step w t (In None i) u → AreAnswers w.moves → A
   no_entry w t i u s f = let g : AreAnswers (Enter t i ∷ u.moves) = subst AreAnswers s.moves f in absurd g
+
+  no_one_unfound : {A : Type 0} (w : World O) (t : Path) (i : Entry) (c : Completion) (u : World O) → Step w [] (Unfound t i c) u → AreAnswers w.moves → A
+  no_one_unfound w t i c u s f = let g : AreAnswers (Enter t i ∷ u.moves) = subst AreAnswers s.moves f in absurd g
 
   no_birth : {A : Type 0} (w : World O) (o : O) (b : _) (u : World O) → Step w [] (Made o b) u → AreAnswers w.moves → A
   no_birth w o b u s f = let g : AreAnswers (Born o b ∷ u.moves) = subst AreAnswers s.moves f in absurd g
@@ -72,10 +76,8 @@ module _ {O : Type 0} where
   before : (w : World O) (p : Place) (x : What O) (u : World O) → Step w p x u → Uncut p x → IsUncut u.tape → IsUncut w.tape
   before w p x u s f g = subst IsUncut (sym s.tape) (f, g)
 
-  closes_uncut : (p : Place) (b : Wrap O) (n : Option (Node O)) → Uncut p (closes b n)
-  closes_uncut p Deeper n = tt
-  closes_uncut p (Framed o back) None = tt
-  closes_uncut p (Framed o back) (Some n) = tt
+  closes_uncut : (p : Place) (b : Wrap O) (m n : Option (Node O)) → Uncut p (closes b m n)
+  closes_uncut p b m n = any_close (Uncut p) b m n tt tt (λ own. tt)
 
 -- answers that come are answers
 pub comes_answers : (O : Type 0) (as2 : List Answer) → AreAnswers {O = O} (comes as2)
@@ -114,10 +116,10 @@ module _ {O I : Type 0} (prog : Table O I) where
   uncut (wrapped w p b i k x inner left closed v c e g on s a t d) f n h =
       let f1 = next w _ x.1 inner s f in
       before w _ x.1 inner s (opens_uncut b w.tree p w.grants x g (on_no_cut x.2 (subst IsOn (sym on) tt)))
-      (uncut a f1 tt (before left p _ closed t (closes_uncut p b (left.tree p)) (uncut d (next left p _ closed t (rest_of a f1)) n h)))
+      (uncut a f1 tt (before left p _ closed t (closes_uncut p b (inner.tree p) (left.tree p)) (uncut d (next left p _ closed t (rest_of a f1)) n h)))
   uncut (wrapped_passed w p b i k x inner left closed r q g on s a t) f n h =
       before w _ x.1 inner s (opens_uncut b w.tree p w.grants x g (on_no_cut x.2 (subst IsOn (sym on) tt)))
-      (uncut a (next w _ x.1 inner s f) n (before left p _ closed t (closes_uncut p b (left.tree p)) h))
+      (uncut a (next w _ x.1 inner s f) n (before left p _ closed t (closes_uncut p b (inner.tree p) (left.tree p)) h))
   uncut (wrapped_halted w p b i k x inner left g on s a) f n h =
       before w _ x.1 inner s (opens_uncut b w.tree p w.grants x g (on_no_cut x.2 (subst IsOn (sym on) tt))) (uncut a (next w _ x.1 inner s f) n h)
   uncut (too_deep w p b i k x u v e g deep s a) f n h =
@@ -127,15 +129,17 @@ module _ {O I : Type 0} (prog : Table O I) where
   uncut (called w p h down i lost k a t out inner left told back v r c e g s1 j s2 x s3 so s4 z) f n m =
       let f2 = next out t _ inner s2 (next w p _ out s1 f) in
       let f4 = next told p _ back s4 (next left t _ told s3 (rest_of x f2)) in
-      let l : NotCut (carried h p down r) = subst NotCut (sym so) tt in
-      let y : NotCut r = carried_cut h p down r l in
+      let ousted : Option ℕ = gone (depth_of (out.tree p)) told.tree p in
+      let l : NotCut (carried ousted h p down r) = subst NotCut (sym so) tt in
+      let y : NotCut r = carried_cut ousted h p down r l in
       before w p _ out s1 tt (before out t _ inner s2 tt (uncut x f2 y
-      (before left t _ told s3 (done_uncut O t (Some (length down)) r y) (before told p _ back s4 (back_uncut O p h (carried h p down r) l) (uncut z f4 n m)))))
+      (before left t _ told s3 (done_uncut O t (Some (length down)) r y) (before told p _ back s4 (back_uncut O p h (carried ousted h p down r) l) (uncut z f4 n m)))))
   uncut (called_passed w p h down i lost k a t out inner left told back r g s1 j s2 x s3 q s4) f n m =
       let f2 = next out t _ inner s2 (next w p _ out s1 f) in
-      let y : NotCut r = carried_cut h p down r n in
+      let ousted : Option ℕ = gone (depth_of (out.tree p)) told.tree p in
+      let y : NotCut r = carried_cut ousted h p down r n in
       before w p _ out s1 tt (before out t _ inner s2 tt (uncut x f2 y
-      (before left t _ told s3 (done_uncut O t (Some (length down)) r y) (before told p _ back s4 (back_uncut O p h (carried h p down r) n) m))))
+      (before left t _ told s3 (done_uncut O t (Some (length down)) r y) (before told p _ back s4 (back_uncut O p h (carried ousted h p down r) n) m))))
   uncut (called_halted w p h down i lost k a t out inner left g s1 j s2 x) f n m =
       before w p _ out s1 tt (before out t _ inner s2 tt (uncut x (next out t _ inner s2 (next w p _ out s1 f)) n m))
   uncut (unreached w p h down i lost k a out back v e g s1 j s2 x) f n m =
@@ -145,9 +149,11 @@ module _ {O I : Type 0} (prog : Table O I) where
   uncut (unfit w p s k m ms g j l t) f n h = h
   uncut (answered w p s k c u v e g j t a) f n h = before w p _ u t tt (uncut a (next w p _ u t f) n h)
   uncut (heard w p s k y u v e g j t a) f n h = before w p _ u t tt (uncut a (next w p _ u t f) n h)
+  uncut (missed w p s k u v e g j t a) f n h = before w p _ u t tt (uncut a (next w p _ u t f) n h)
   uncut (answered_passed w p s k r u q g j t) f n h = before w p _ u t (back_uncut O p (height_of s) r n) h
-  uncut (entered w p s k t i inner left told v r e g s1 a s2 q b) f n h = no_entry w t i inner s1 f
-  uncut (entered_halted w p s k t i inner left g s1 a) f n h = no_entry w t i inner s1 f
-  uncut (entered_exiting w p s k t i inner left told v y e g s1 a s2 b) f n h = no_entry w t i inner s1 f
+  uncut (entered w p s k t i inner left told v r e g here s1 a s2 q b) f n h = no_entry w t i inner s1 f
+  uncut (entered_halted w p s k t i inner left g here s1 a) f n h = no_entry w t i inner s1 f
+  uncut (entered_exiting w p s k t i inner left told v y e g here s1 a s2 b) f n h = no_entry w t i inner s1 f
+  uncut (unfound w p s k t i u v e g here s1 a) f n h = no_one_unfound w t i (prog.lost t) u s1 f
   uncut (born w p s k o b u v e g t a) f n h = no_birth w o b u t f
   uncut (fallen w p s k u v e g t a) f n h = no_fall w u t f

@@ -11,8 +11,8 @@ use Rattle.tcl_language_laws.specs.Language.{language}
 use Rattle.tcl_text.specs.declared.integer.Integers.{Integers}
 use Rattle.tcl_tree.specs.TreeOf.{tree_of}
 use Rattle.tcl_tree.specs.declared.tree.Tree.{Tree as TreeTable}
-use Rattle.tcl_run_laws.specs.Budgets.{CountsRise, CountsStayWithin, DepthsComeBack, IsOrderly}
-use Rattle.tcl_run_laws.specs.Budgets.{KeepsBudget, LimitsStay, StopsAreObeyed}
+use Rattle.tcl_run_laws.specs.Budgets.{CountsRise, CountsStayWithin, DepthsComeBack, DepthsStay}
+use Rattle.tcl_run_laws.specs.Budgets.{IsOrderly, KeepsBudget, LimitsStay, StopsAreObeyed}
 
 -- In the whole evaluation of each script, anywhere in a tree T, with n counted steps and whatever
 -- the host replies, this is so of the trees before and after it and of all that happens in it.
@@ -43,9 +43,10 @@ LimitsHold O I = (prog : Table O I) → InEach prog (λ T n τ V. CountsStayWith
 abbrev pub StopsHold : Type 0 → Type 0 → Type 0
 StopsHold O I = (prog : Table O I) → InEach prog (λ T n τ V. StopsAreObeyed τ)
 
--- Each is in use afterwards as deeply as before.
+-- Each that isn't dropped is in use afterwards as deeply as before, and every other one is not.
 abbrev pub DepthsHold : Type 0 → Type 0 → Type 0
-DepthsHold O I = (prog : Table O I) → InEach prog (λ T n τ V. IsOrderly T → DepthsComeBack T V)
+DepthsHold O I = (prog : Table O I) → InEach prog
+    (λ T n τ V. IsOrderly T → DepthsStay T τ V × DepthsComeBack T V)
 
 -- In a safe subtree no script changes a limit.
 abbrev pub ScriptsSetNoLimit : Type 0

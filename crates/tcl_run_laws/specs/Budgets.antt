@@ -74,9 +74,13 @@ module _ {O : Type 0} where
 
   -- ## Depths
 
-  -- Where nobody was in use more deeply than one above it, each is in use afterwards as deeply as
-  -- before, or, where it or one above it was dropped meanwhile, not at all. And so nobody is in use
-  -- where nobody was.
+  -- Where nobody was in use more deeply than one above it, each that isn't dropped meanwhile, nor
+  -- one above it, is in use afterwards as deeply as before.
+  abbrev pub DepthsStay : Tree O → List (Event O) → Tree O → Type 0
+  DepthsStay T τ V = IsNested T → (q : Place) → IsSpared q τ → depth_of (V q) ≡ depth_of (T q)
+
+  -- Of the trees alone: each is in use afterwards as deeply as before, or not at all, as where it or
+  -- one above it was dropped. And so nobody is in use where nobody was.
   pub record DepthsComeBack (T V : Tree O) : Type 0 where
     pub same : IsNested T → (q : Place) → (depth_of (V q) ≡ depth_of (T q)) ⊎ (depth_of (V q) ≡ 0)
     pub rest : IsAtRest T → IsAtRest V
@@ -94,4 +98,5 @@ module _ {O : Type 0} where
     pub within : CountsStayWithin T τ V
     pub stops : StopsAreObeyed τ
     pub limits : LimitsStay T τ V
+    pub spared_depths : DepthsStay T τ V
     pub depths : DepthsComeBack T V

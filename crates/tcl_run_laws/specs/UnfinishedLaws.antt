@@ -32,10 +32,9 @@ pub record IsBeginning {I S : Type 0} (step : S → TheirRequest → TheirReply 
 
 -- Where a script with a host, whose root may make n steps, is given up on its way, what the host
 -- was asked until then is what the whole evaluation of that script begins with. So it is for every
--- table of commands and every tree in which somebody stands at the path.
+-- table of commands and every tree.
 abbrev pub RunsBegin : {S : Type 0} → Type 0 → (S → TheirRequest → TheirReply → S → Type 0) → Type 0
-RunsBegin {S} I step = (prog : Table Own I) (T : Tree Own) (o z : S) (p : Path) (s : Text) (n : ℕ)
-    (there : Node Own) → T p ≡ Some there →
+RunsBegin {S} I step = (prog : Table Own I) (T : Tree Own) (o z : S) (p : Path) (s : Text) (n : ℕ) →
     Begun (Crossings (hosted step)) prog (limited n T) o p (prog.entry (Eval s)) z →
     IsBeginning step prog T p s n o z
 

@@ -35,7 +35,8 @@ pub fn stops_hold<O, I>()
     ensures { StopsHold O I }
 {}
 
-/// Each interpreter is in use afterwards as deeply as before.
+/// Each interpreter is in use afterwards as deeply as before where neither it nor one above it is
+/// dropped meanwhile, and in any case so deeply or not at all.
 pub fn depths_hold<O, I>()
     ensures { DepthsHold O I }
 {}

@@ -14,7 +14,7 @@ ghost use Rattle.tcl_tree.specs.TreeOf.{marks_of, tree_of};
 
 use indexmap::map::Keys;
 use std::alloc::{AllocError, Global};
-use tcl_client::entering::{client_alias, values_of};
+use tcl_client::entering::values_of;
 use tcl_protocol::answers::{Answer, Standing};
 use tcl_protocol::messages::{Alias, AliasToClient, ClearAlias, Create, LimitCount, LimitDepth};
 use tcl_protocol::refusals::Refusal;
@@ -146,9 +146,9 @@ pub(crate) fn set_client_alias(
     ensures marks { marks_of tree.new ≡ marks_of tree.old }
 {
     let path = alias.path.as_slice();
-    let made = client_alias(alloc, path, alias.words.as_slice())?;
+    let words = values_of(alloc, alias.words.as_slice())?;
     let name = alias.name.clone()?;
-    match tree.set_alias(alloc, path, name, &made) {
+    match tree.set_alias_past(alloc, path, name, words) {
         Ok(()) => Ok(Answer::Done),
         Err(error) => Err(refused_for(alloc, error, path, &alias.name)),
     }

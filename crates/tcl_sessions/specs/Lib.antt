@@ -8,4 +8,3 @@ pub mod Refusals
 pub mod Sessions
 pub mod Standing
 pub mod Texts
-pub mod Trees

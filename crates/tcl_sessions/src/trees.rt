@@ -1,19 +1,16 @@
 //! Children and aliases.
-ghost use Rattle.std.specs.Prelude.{◌≡◌, ◌+◌, ◌⊎◌, IfErr, IfOk, IsSome, OnErr, OnOk, length};
-ghost use Rattle.tcl_sessions.specs.declared.refusal.Refusal.TheVariants.{Memory};
+ghost use Rattle.std.specs.Prelude.{◌≡◌, IfErr, IsSome, OnErr, OnOk};
 ghost use Rattle.tcl_interpreter.specs.declared.command.Command.TheVariants as command;
 ghost use Rattle.tcl_sessions.specs.Sessions.{IsRefused, KeepsRest};
-ghost use Rattle.tcl_sessions.specs.Trees.{way_out};
 ghost use Rattle.tcl_tree.specs.Changes.{Drops, Makes, RefusesDrop, RefusesMake};
 ghost use Rattle.tcl_tree.specs.Naming.{Becomes, RefusesAt, RefusesThere, cleared, named};
 ghost use Rattle.tcl_tree.specs.TreeOf.{marks_of, tree_of};
-ghost use Rattle.tcl_interpreter.specs.Commands.{way_between};
+ghost use Rattle.tcl_interpreter.specs.Commands.{way_between, way_past};
 
 use crate::refusal::Refusal;
 use crate::session::Session;
-use std::alloc::{AllocError, Global};
+use std::alloc::Global;
 use tcl_text::text::Text;
-use tcl_tree::alias::Alias;
 use tcl_value::value::Value;
 
 impl Session {
@@ -105,18 +102,17 @@ impl Session {
         words: Vec<Value>,
     ) -> Result<(), Refusal>
         ensures set { OnOk result (Becomes (tree_of self.old.tree) (tree_of self.new.tree) path.now
-            (λ own. named own name (command.Alias (way_out path.now words.items)))) }
+            (λ own. named own name (command.Alias (way_past path.now words.items)))) }
         ensures there { OnOk result (IsSome (tree_of self.old.tree path.now)) }
         ensures refused { IfErr result
-            (λ e. (e ≡ Memory) ⊎ IsRefused (λ t. RefusesAt t (tree_of self.old.tree) path.now
-            (λ own. named own name (command.Alias (way_out path.now words.items)))) self.old e) }
+            (λ e. IsRefused (λ t. RefusesAt t (tree_of self.old.tree) path.now
+            (λ own. named own name (command.Alias (way_past path.now words.items)))) self.old e) }
         ensures unchanged { OnErr result (tree_of self.new.tree ≡ tree_of self.old.tree) }
         ensures marks { marks_of self.new.tree ≡ marks_of self.old.tree }
         ensures rest { KeepsRest self.old self.new }
     {
         self.at_rest()?;
-        let alias = leading_out(alloc, path, words)?;
-        Ok(self.tree.set_alias(alloc, path, name, &alias)?)
+        Ok(self.tree.set_alias_past(alloc, path, name, words)?)
     }
 
     /// Takes an alias of the interpreter at the path away.
@@ -138,11 +134,4 @@ impl Session {
         self.at_rest()?;
         Ok(self.tree.clear_alias(path, name)?)
     }
-}
-
-/// The alias of an interpreter at the path that leads past the root, with these words.
-fn leading_out(alloc: Global, path: &[Text], words: Vec<Value>) -> Result<Alias, AllocError>
-    ensures { IfOk result (λ alias. alias ≡ way_out path.now words.items) }
-{
-    Alias::new(alloc, path.len() + 1, Vec::new(alloc), words)
 }

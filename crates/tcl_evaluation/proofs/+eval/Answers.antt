@@ -2,7 +2,7 @@ use Rattle.std.proofs.Common.{◌≡◌, ◌≤◌, [], ◌∷◌, ◌++◌, Lis
 use Rattle.std.proofs.lemmas.Result.{err_from_is_err_and}
 use Rattle.std.specs.String.{string_bytes}
 use Rattle.tcl_core.specs.Paths.{Path}
-use Rattle.tcl_core.specs.Trees.{Node}
+use Rattle.tcl_core.specs.Trees.{Node, depth_of}
 use Rattle.tcl_parser.specs.declared.script.Part.TheVariants as part
 use Rattle.tcl_run.specs.Ends.{too_deep_at, IsFailure}
 use Rattle.tcl_tree.specs.Own.{Own}
@@ -21,7 +21,7 @@ use Rattle.tcl_parser.specs.Words.{WordRead}
 use Rattle.tcl_language.specs.Instructions.{fits, Open}
 use Rattle.tcl_run.proofs.Endings.{IfEnded-at, Interrupts-more, Interrupts-at}
 use Rattle.tcl_run.proofs.Proceeding.{at_prog, at_reply}
-use Rattle.tcl_run.proofs.Steady.{still_at, still_in_use, still_running, steady-trans, level_steady, nested_steady, nested_held, level_held, level-refl, same_level, begun_at, less_room, stands}
+use Rattle.tcl_run.proofs.Steady.{called_here, here-refl, here-trans, still_at, still_named, still_running, steady-trans, steady_holds, level_here, level_steady, nested_here, nested_holds, nested_innermost, nested_steady, nested_held, level_held, level-refl, same_level, begun_at, less_room, stands}
 use Rattle.tcl_run.proofs.Keeping.{keeps-refl, keeps-trans, level_keeps, charged_keeps, told_keeps}
 use Rattle.tcl_evaluation.proofs.Steps
 use Rattle.tcl_evaluation.proofs.Steps.{stays_of, EndsFrom, TextEnds, text_ends, VariableEnds, variable_ends, EndsAt, appended, forgets, both}
@@ -45,7 +45,7 @@ use Rattle.tcl_language.specs.Control.{code_text, eval as control_eval, catch as
 use Rattle.tcl_calls.specs.Found.{found}
 use Rattle.tcl_evaluation.proofs.Found.{call_found, call_missing}
 use Rattle.tcl_evaluation.proofs.Catching.{caught_ok, caught_err, eval_runs, eval_long, eval_none, catch_goes, catch_passes, catch_none, catch_many}
-use Rattle.tcl_evaluation.specs.View.{targeted, unhidden, invokes_at}
+use Rattle.tcl_evaluation.specs.View.{targeted, unhidden}
 use Rattle.std.proofs.Common.{false}
 use Rattle.std.specs.Prelude.{Err}
 use Rattle.tcl_run.specs.Runs.{IsThere}
@@ -56,11 +56,12 @@ use Rattle.tcl_entries.proofs.Reached.{never_outside}
 use Rattle.tcl_core.specs.Programs.Prog.{done}
 use Rattle.tcl_language.specs.Interpreters.{asks_at}
 use Rattle.tcl_language.specs.Words.{concat}
-use Rattle.tcl_run.specs.Runs.{IsAt}
+use Rattle.tcl_run.specs.Runs.{IsAt, IsHere}
 use Rattle.tcl_run.proofs.Proceeding.{grows, outgrows}
-use Rattle.tcl_evaluation.proofs.Entered.{asks_another, asks_here, hidden_stops, hidden_settles, invokes_here, invokes_global}
+use Rattle.tcl_evaluation.proofs.Entered.{asks_another, asks_here, hidden_global, hidden_here, hidden_stops, hidden_settles}
+use Rattle.tcl_evaluation.proofs.Staying.{here_caught, here_collected, here_err, here_in, here_left, here_left_file, here_level, here_passed, here_settled, here_text, here_then, here_turned, uncaught, unmoved}
 use Rattle.tcl_core.specs.Entries.Entry.{Eval, InvokeHidden}
-use Rattle.tcl_language.specs.Table.{invoked}
+use Rattle.tcl_language.specs.Table.{hidden_at, invoked}
 use Rattle.tcl_calls.specs.Found.{hidden_found}
 use Rattle.tcl_evaluation.proofs.Found.{invoke_found, invoke_missing}
 use Rattle.tcl_core.specs.Entries.Entry.{CallWords}
@@ -68,7 +69,7 @@ use Rattle.tcl_language.specs.Interpreters.{call_alias as alias_program}
 use Rattle.tcl_language.specs.Table.{serve}
 use Rattle.tcl_interpreter.specs.declared.command.Command.{Command}
 use Rattle.tcl_language.specs.Faults.{lost_alias}
-use Rattle.tcl_evaluation.proofs.Targets.{asks_nobody, calls_untold, settled_more, target_ends, target_refused, entry_stops, entry_calls, entry_evaluates, unhidden_ends, unhidden_refused, same_dispatch, evaluates_there, alias_is, done_on, evaluates_same, calls_there, calls_end, calls_below, calls_nobody, calls_past, lost_so}
+use Rattle.tcl_evaluation.proofs.Targets.{asks_nobody, calls_untold, settled_more, target_ends, target_refused, entry_stops, entry_calls, entry_evaluates, unhidden_ends, unhidden_refused, same_dispatch, evaluates_there, alias_is, done_on, evaluates_same, calls_there, calls_end, calls_below, calls_nobody, lost_so}
 -- (of expressions and the commands with conditions)
 use Rattle.std.proofs.Common.{◌⊎◌, inl, inr, ◌<◌, get_or}
 use Rattle.std.specs.Option.{option_copied}
@@ -132,9 +133,15 @@ use Rattle.tcl_core.specs.Entries.Entry.{AskHost}
 use Rattle.tcl_core.specs.Entries as asking
 use Rattle.tcl_run.specs.Entering.{entry_of, request_of, whole_entry}
 use Rattle.tcl_run.specs.Outsides.{OnEntry, reply_of}
+use Rattle.tcl_core.specs.Entries.Answer.{Replied, Heard, Nobody}
+use Rattle.tcl_core.specs.Runs.{gone}
+use Rattle.tcl_run.specs.Ends.{WhereMemory}
+use Rattle.tcl_run.specs.declared.outside.Turn.TheVariants as turn
+use Rattle.tcl_run.specs.declared.interruption.Interruption.{Interruption}
+use Rattle.std.specs.Prelude.{Result}
 -- (of what is given up)
 use Rattle.tcl_run.specs.Runs.{ways}
-use Rattle.tcl_run.proofs.Endings.{IfRan-more, breaks, fails_err, memory_err, ran_err, says_err}
+use Rattle.tcl_run.proofs.Endings.{Completes-all, IfRan-more, OnCompletion-more, breaks, completes_err, fails_err, memory_err, on_completion, ran_err, says_err}
 use Rattle.tcl_run.proofs.Losing.{lost_again, lost_once}
 use Rattle.tcl_run.proofs.Proceeding.{does_proceeds, stopped, stopped_by}
 use Rattle.tcl_language.specs.Definitions as definitions
@@ -144,6 +151,8 @@ use Rattle.tcl_run.specs.Runs.{room}
 use Rattle.tcl_run.specs.declared.outside.Turn.{Turn}
 use Rattle.tcl_language.specs.Interpreters.{denied, no_interpreter}
 use Rattle.tcl_evaluation.specs.Waiting.{SaysOn}
+use Rattle.tcl_calls.specs.Carrying.{IsStanding}
+use Rattle.tcl_tree.specs.Gone.{Holds}
 use Rattle.tcl_evaluation.proofs.+eval.Goals.{sourcing::source-in_default-via-then-args-lt1, sourcing::source-in_default-via-else-args-lt1+else-args-lt2}
 -- (of loops over lists and dicts, and of choices)
 use Rattle.tcl_language.specs.Control.{foreach, foreach_form, lmap, lmap_form, lmap_turns}
@@ -182,7 +191,7 @@ evaluation::eval_command-returns-in_err-text-clause-runs g t c =
     ran_err c.from_residual-in_err-text.result c.in_err-text.field-0.0 p.0 _ _ _ p.1 p.2
     (stays_of c.eval_word.result c.in_err-text.field-0.0 (EndsFrom (ways g.O.Outside.goes g.O.Outside.loses) c.words.tree c.words.outside c.args.place (λ style. parts c.word-item.result.parts [] []) c.eval_word.new.tree c.eval_word.new.outside) c.in_err-text.ensures.same c.eval_word.ensures.runs c.in_err-text.ensures.stays)
     (λ e h q style at. c.words.invariant.leads q style at _ _ _ (at_prog (ap (λ (ws : List WordRead). words ws c.words.words.items) item)
-    (Steps.word_stays style c.word-item.result _ c.words.words.items e h.1 (h.0 q style (still_at _ _ c.args.place q style c.words.invariant.keeps.steady at)))))
+    (Steps.word_stays style c.word-item.result _ c.words.words.items e h.1 (h.0 q style (still_at c.args.tree.now c.words.tree c.args.place q style c.words.invariant.here at)))))
 
 pub evaluation::eval_command-returns-in_err-spread-clause-runs : goal.evaluation::eval_command-returns-in_err-spread-clause-runs
 evaluation::eval_command-returns-in_err-spread-clause-runs g t c =
@@ -191,9 +200,9 @@ evaluation::eval_command-returns-in_err-spread-clause-runs g t c =
     let x = ran_text c.eval_word.result c.in_ok-text.text (EndsFrom (ways g.O.Outside.goes g.O.Outside.loses) c.words.tree c.words.outside c.args.place (λ style. parts c.word-item.result.parts [] []) c.eval_word.new.tree c.eval_word.new.outside) c.in_ok-text.ensures.text c.eval_word.ensures.runs in
     fails_err c.from_residual-in_err-spread.result c.in_err-spread.field-0.0 p.0 _ _ _ p.1 p.2 c.in_err-spread.ensures
     (λ e h q style at. c.words.invariant.leads q style at _ _ _ (at_prog (ap (λ (ws : List WordRead). words ws c.words.words.items) item)
-    (Steps.word_fails style c.word-item.result _ c.words.words.items x.0 c.in_ok-text.text e _ (ap (λ (w : WordRead). w.expand) c.word.view_is) x.2 x.3 h (x.1 q style (still_at _ _ c.args.place q style c.words.invariant.keeps.steady at)))))
+    (Steps.word_fails style c.word-item.result _ c.words.words.items x.0 c.in_ok-text.text e _ (ap (λ (w : WordRead). w.expand) c.word.view_is) x.2 x.3 h (x.1 q style (still_at c.args.tree.now c.words.tree c.args.place q style c.words.invariant.here at)))))
     (λ q style at. c.words.invariant.leads q style at _ _ _ (at_prog (ap (λ (ws : List WordRead). words ws c.words.words.items) item)
-    (Steps.word_lost style c.word-item.result _ c.words.words.items (x.1 q style (still_at _ _ c.args.place q style c.words.invariant.keeps.steady at)))))
+    (Steps.word_lost style c.word-item.result _ c.words.words.items (x.1 q style (still_at c.args.tree.now c.words.tree c.args.place q style c.words.invariant.here at)))))
 
 pub evaluation::eval_command-words-preserved : goal.evaluation::eval_command-words-preserved
 evaluation::eval_command-words-preserved g t c =
@@ -201,7 +210,8 @@ evaluation::eval_command-words-preserved g t c =
     let x = ran_text c.eval_word.result c.in_ok-text.text (EndsFrom (ways g.O.Outside.goes g.O.Outside.loses) c.words.tree c.words.outside c.args.place (λ style. parts c.word-item.result.parts [] []) c.eval_word.new.tree c.eval_word.new.outside) c.in_ok-text.ensures.text c.eval_word.ensures.runs in
     record {
       leads = λ q style at V z r run. c.words.invariant.leads q style at _ _ _ (at_prog (ap (λ (ws : List WordRead). words ws c.words.words.items) item)
-          (Steps.word_goes style c.word-item.result _ c.words.words.items _ x.0 c.in_ok-text.text _ (ap (λ (w : WordRead). w.expand) c.word.view_is) x.2 x.3 c.in_ok-spread.ensures (x.1 q style (still_at _ _ c.args.place q style c.words.invariant.keeps.steady at)) run));
+          (Steps.word_goes style c.word-item.result _ c.words.words.items _ x.0 c.in_ok-text.text _ (ap (λ (w : WordRead). w.expand) c.word.view_is) x.2 x.3 c.in_ok-spread.ensures (x.1 q style (still_at c.args.tree.now c.words.tree c.args.place q style c.words.invariant.here at)) run));
+      here = here-trans c.args.tree.now c.words.tree c.eval_word.new.tree c.args.place c.words.invariant.here (here_text c.eval_word.result c.in_ok-text.text c.words.tree c.eval_word.new.tree c.args.place c.in_ok-text.ensures.text c.eval_word.ensures.here);
       keeps = keeps-trans c.words.invariant.keeps c.eval_word.ensures.keeps;
     }
 
@@ -220,7 +230,7 @@ evaluation::eval_command-returns-in_err-charge-clause-runs g t c =
     let p = err_from_is_err_and c.from_residual-in_err-charge.result c.from_residual-in_err-charge.ensures.1 in
     says_err c.from_residual-in_err-charge.result c.in_err-charge.field-0.0 p.0 _ _ _ p.1 p.2 c.in_err-charge.ensures.refused
     (λ e h q style at. c.words.invariant.leads q style at _ _ _ (at_prog (ap (λ (ws : List WordRead). words ws c.words.words.items) none)
-    (Steps.charged_stops style c.words.words.items some (h q (still_at _ _ c.args.place q style c.words.invariant.keeps.steady at).names))))
+    (Steps.charged_stops style c.words.words.items some (h q (still_at c.args.tree.now c.words.tree c.args.place q style c.words.invariant.here at).names))))
 
 pub evaluation::eval_command-returns-clause-runs : goal.evaluation::eval_command-returns-clause-runs
 evaluation::eval_command-returns-clause-runs g t c =
@@ -229,10 +239,10 @@ evaluation::eval_command-returns-clause-runs g t c =
     let none = none_on c.deref-word-items.result.now c.words.word-index c.words-test.false in
     IfRan-more c.call.result (EndsFrom (ways g.O.Outside.goes g.O.Outside.loses) c.charge.new.tree c.charge.new.outside c.args.place (λ style. called style c.as_slice.result.now) c.call.new.tree c.call.new.outside)
     (EndsFrom (ways g.O.Outside.goes g.O.Outside.loses) c.args.tree.now c.args.outside.now c.args.place (λ style. words c.args.command.now []) c.call.new.tree c.call.new.outside) (λ e h q style at.
-    let here = still_at _ _ c.args.place q style c.words.invariant.keeps.steady at in
+    let here = still_at c.args.tree.now c.words.tree c.args.place q style c.words.invariant.here at in
     let counts = c.in_ok-charge.ensures.counted q here.names in
     c.words.invariant.leads q style at _ _ _ (at_prog (ap (λ (ws : List WordRead). words ws c.words.words.items) none)
-    (Steps.charged_calls style c.words.words.items some counts (at_prog (ap (called style) (sym c.as_slice.ensures.value)) (h q style (still_at _ _ c.args.place q style (level_steady _ _ c.charge.ensures.level) here)))))) c.call.ensures.runs
+    (Steps.charged_calls style c.words.words.items some counts (at_prog (ap (called style) (sym c.as_slice.ensures.value)) (h q style (still_at _ _ c.args.place q style (level_here _ _ c.args.place c.charge.ensures.level) here)))))) c.call.ensures.runs
 
 -- the commands of a script
 
@@ -243,7 +253,7 @@ evaluation::eval_commands-returns-in_err-last-clause-runs g t c =
     ran_err c.from_residual.result c.in_err-last.field-0.0 p.0 _ _ _ p.1 p.2
     (stays_of c.eval_command.result c.in_err-last.field-0.0 (EndsFrom (ways g.O.Outside.goes g.O.Outside.loses) c.commands.tree c.commands.outside c.args.place (λ style. words c.command-item.result []) c.eval_command.new.tree c.eval_command.new.outside) c.in_err-last.ensures.same c.eval_command.ensures.runs c.in_err-last.ensures.stays)
     (λ e h q style at. c.commands.invariant.leads q style at _ _ _ (at_prog (ap (λ (cs : List (List WordRead)). commands cs c.args.script.now.fault c.commands.last) item)
-    (Steps.command_stays style c.command-item.result _ c.args.script.now.fault c.commands.last e h.1 (h.0 q style (still_at _ _ c.args.place q style c.commands.invariant.keeps.steady at)))))
+    (Steps.command_stays style c.command-item.result _ c.args.script.now.fault c.commands.last e h.1 (h.0 q style (still_at c.args.tree.now c.commands.tree c.args.place q style c.commands.invariant.here at)))))
 
 pub evaluation::eval_commands-commands-preserved : goal.evaluation::eval_commands-commands-preserved
 evaluation::eval_commands-commands-preserved g t c =
@@ -251,7 +261,8 @@ evaluation::eval_commands-commands-preserved g t c =
     let x = ran_text c.eval_command.result c.in_ok-last.last (EndsFrom (ways g.O.Outside.goes g.O.Outside.loses) c.commands.tree c.commands.outside c.args.place (λ style. words c.command-item.result []) c.eval_command.new.tree c.eval_command.new.outside) c.in_ok-last.ensures.text c.eval_command.ensures.runs in
     record {
       leads = λ q style at V z r run. c.commands.invariant.leads q style at _ _ _ (at_prog (ap (λ (cs : List (List WordRead)). commands cs c.args.script.now.fault c.commands.last) item)
-          (Steps.command_goes style c.command-item.result _ c.args.script.now.fault c.commands.last x.0 c.in_ok-last.last x.2 x.3 (x.1 q style (still_at _ _ c.args.place q style c.commands.invariant.keeps.steady at)) run));
+          (Steps.command_goes style c.command-item.result _ c.args.script.now.fault c.commands.last x.0 c.in_ok-last.last x.2 x.3 (x.1 q style (still_at c.args.tree.now c.commands.tree c.args.place q style c.commands.invariant.here at)) run));
+      here = here-trans c.args.tree.now c.commands.tree c.eval_command.new.tree c.args.place c.commands.invariant.here (here_text c.eval_command.result c.in_ok-last.last c.commands.tree c.eval_command.new.tree c.args.place c.in_ok-last.ensures.text c.eval_command.ensures.here);
       keeps = keeps-trans c.commands.invariant.keeps c.eval_command.ensures.keeps;
     }
 
@@ -299,10 +310,10 @@ evaluation::eval_script-returns-in-Err-clause-runs g t c = breaks c.too_deep.res
     let no = c.in-Err.ensures.refused q at.names in Steps.read_refused style c.args.script.now c.in-Err.levels no.0 no.1 h) (λ q style at. stopped) c.too_deep.ensures
 
 pub evaluation::eval_script-returns-in-Err-clause-held : goal.evaluation::eval_script-returns-in-Err-clause-held
-evaluation::eval_script-returns-in-Err-clause-held g t c = λ q at. level_held _ _ q (same_level c.args.tree.now c.nest_at.new.self c.in-Err.ensures.marks c.in-Err.ensures.keys (c.in-Err.ensures.refused q at).1)
+evaluation::eval_script-returns-in-Err-clause-held g t c = λ q at. level_held _ _ q (same_level c.args.tree.now c.nest_at.new.self c.in-Err.ensures.marks c.in-Err.ensures.keys c.in-Err.ensures.held (c.in-Err.ensures.refused q at).1)
 
 pub evaluation::eval_script-returns-in-Err-clause-keeps : goal.evaluation::eval_script-returns-in-Err-clause-keeps
-evaluation::eval_script-returns-in-Err-clause-keeps g t c = level_keeps _ (same_level c.args.tree.now c.nest_at.new.self c.in-Err.ensures.marks c.in-Err.ensures.keys (c.in-Err.ensures.refused c.requires.0 c.requires.1).1)
+evaluation::eval_script-returns-in-Err-clause-keeps g t c = level_keeps _ (same_level c.args.tree.now c.nest_at.new.self c.in-Err.ensures.marks c.in-Err.ensures.keys c.in-Err.ensures.held (c.in-Err.ensures.refused c.requires.0 c.requires.1).1)
 
 pub evaluation::eval_script-eval_commands-ended-requires : goal.evaluation::eval_script-eval_commands-ended-requires
 evaluation::eval_script-eval_commands-ended-requires g t c κs within =
@@ -314,11 +325,10 @@ evaluation::eval_script-eval_commands-ended-requires g t c κs within =
     (search rules, (search rules, (p, c.in_default.ensures.keys p ∙ names, begun_at c.args.tree.now c.nest_at.new.self c.args.place p names free.1)))
 
 pub evaluation::eval_script-unnest-requires : goal.evaluation::eval_script-unnest-requires
-evaluation::eval_script-unnest-requires g t c =
-    let p = c.requires.0 in
-    let names = c.requires.1 in
-    let free = c.in_default.ensures.nested p names in
-    (p, c.eval_commands-ended.ensures.keeps.steady.keys p _ (c.in_default.ensures.keys p ∙ names) (begun_at c.args.tree.now c.nest_at.new.self c.args.place p names free.1))
+evaluation::eval_script-unnest-requires g t c = (
+  (c.requires.0, (1, nested_holds c.args.tree.now c.nest_at.new.self c.eval_commands-ended.new.tree c.args.place c.requires.0 c.requires.1 c.in_default.ensures.keys c.in_default.ensures.deeper (c.in_default.ensures.nested c.requires.0 c.requires.1).1 c.eval_commands-ended.ensures.keeps.steady)),
+  nested_innermost c.args.tree.now c.nest_at.new.self c.eval_commands-ended.new.tree c.args.place c.requires.0 c.requires.1 c.in_default.ensures.keys c.in_default.ensures.deeper (c.in_default.ensures.nested c.requires.0 c.requires.1).1 c.eval_commands-ended.ensures.keeps.steady,
+)
 
 pub evaluation::eval_script-returns-clause-runs : goal.evaluation::eval_script-returns-clause-runs
 evaluation::eval_script-returns-clause-runs g t c =
@@ -329,27 +339,21 @@ evaluation::eval_script-returns-clause-runs g t c =
     let free = c.in_default.ensures.nested q at.names in
     let running = begun_at c.args.tree.now c.nest_at.new.self c.args.place q at.names free.1 in
     let names = c.in_default.ensures.keys q ∙ at.names in
-    Steps.reads_end style c.args.script.now free.0 free.1 (c.unnest.ensures.unnested q (c.eval_commands-ended.ensures.keeps.steady.keys q _ names running))
+    Steps.reads_end style c.args.script.now free.0 free.1 (c.unnest.ensures.unnested q 1 (nested_holds c.args.tree.now c.nest_at.new.self c.eval_commands-ended.new.tree c.args.place q at.names c.in_default.ensures.keys c.in_default.ensures.deeper (c.in_default.ensures.nested q at.names).1 c.eval_commands-ended.ensures.keeps.steady))
     (h q style (record { names = names; style_is = ap (λ m. m.integers) c.in_default.ensures.marks ∙ at.style_is; running = running })))
     c.eval_commands-ended.ensures.runs
 
 pub evaluation::eval_script-returns-clause-keeps : goal.evaluation::eval_script-returns-clause-keeps
-evaluation::eval_script-returns-clause-keeps g t c =
-    let p = c.requires.0 in
-    let names = c.requires.1 in
-    let free = c.in_default.ensures.nested p names in
-    let running = begun_at c.args.tree.now c.nest_at.new.self c.args.place p names free.1 in
-    record {
-      steady = nested_steady c.args.tree.now c.nest_at.new.self c.eval_commands-ended.new.tree c.unnest.new.self p c.in_default.ensures.marks c.in_default.ensures.keys free.1 c.eval_commands-ended.ensures.keeps.steady
-          c.unnest.ensures.marks c.unnest.ensures.keys (c.unnest.ensures.unnested p (c.eval_commands-ended.ensures.keeps.steady.keys p _ (c.in_default.ensures.keys p ∙ names) running));
-      left = c.eval_commands-ended.ensures.keeps.left;
-    }
+evaluation::eval_script-returns-clause-keeps g t c = record {
+  steady = nested_steady c.args.tree.now c.nest_at.new.self c.eval_commands-ended.new.tree c.args.place c.requires.0 c.requires.1 c.in_default.ensures.keys c.in_default.ensures.deeper (c.in_default.ensures.nested c.requires.0 c.requires.1).1 c.eval_commands-ended.ensures.keeps.steady
+      c.unnest.new.self c.unnest.ensures.keys c.unnest.ensures.shallower (c.unnest.ensures.unnested c.requires.0 1 (nested_holds c.args.tree.now c.nest_at.new.self c.eval_commands-ended.new.tree c.args.place c.requires.0 c.requires.1 c.in_default.ensures.keys c.in_default.ensures.deeper (c.in_default.ensures.nested c.requires.0 c.requires.1).1 c.eval_commands-ended.ensures.keeps.steady)) c.in_default.ensures.marks c.unnest.ensures.marks;
+  left = c.eval_commands-ended.ensures.keeps.left;
+}
 
 pub evaluation::eval_script-returns-clause-held : goal.evaluation::eval_script-returns-clause-held
 evaluation::eval_script-returns-clause-held g t c = λ q at.
-    let running = begun_at c.args.tree.now c.nest_at.new.self c.args.place q at (c.in_default.ensures.nested q at).1 in
-    nested_held c.args.tree.now c.nest_at.new.self c.eval_commands-ended.new.tree c.unnest.new.self c.args.place q at c.in_default.ensures.keys (c.in_default.ensures.nested q at).1 c.eval_commands-ended.ensures.keeps.steady
-    c.unnest.ensures.keys (c.unnest.ensures.unnested q (c.eval_commands-ended.ensures.keeps.steady.keys q _ (c.in_default.ensures.keys q ∙ at) running))
+    nested_held c.args.tree.now c.nest_at.new.self c.eval_commands-ended.new.tree c.args.place q at c.in_default.ensures.keys c.in_default.ensures.deeper (c.in_default.ensures.nested q at).1 c.eval_commands-ended.ensures.keeps.steady
+    c.unnest.new.self c.unnest.ensures.keys c.unnest.ensures.shallower (c.unnest.ensures.unnested q 1 (nested_holds c.args.tree.now c.nest_at.new.self c.eval_commands-ended.new.tree c.args.place q at c.in_default.ensures.keys c.in_default.ensures.deeper (c.in_default.ensures.nested q at).1 c.eval_commands-ended.ensures.keeps.steady))
 
 pub evaluation::eval_text-returns-in_err-script-clause-runs : goal.evaluation::eval_text-returns-in_err-script-clause-runs
 evaluation::eval_text-returns-in_err-script-clause-runs g t c =
@@ -479,15 +483,16 @@ evaluation::substitute-returns-in_err-eval_part-clause-runs g t c =
     let p = err_from_is_err_and c.from_residual.result c.from_residual.ensures.1 in
     ran_err c.from_residual.result c.in_err-eval_part.field-0.0 p.0 _ _ _ p.1 p.2 c.in_err-eval_part.ensures.runs
     (λ e h q style at. c.parts.invariant.leads q style at _ _ _ (at_prog (ap (λ (ps : List Part). parts ps (opens c.parts.elements.items) (string_bytes c.parts.text)) item)
-    (h q style (still_at _ _ c.args.place q style c.parts.invariant.keeps.steady at) _)))
+    (h q style (still_at c.args.tree.now c.parts.tree c.args.place q style c.parts.invariant.here at) _)))
 
 pub evaluation::substitute-parts-preserved : goal.evaluation::substitute-parts-preserved
 evaluation::substitute-parts-preserved g t c =
     let item = item_on c.args.parts.now c.parts.part-index c.part-item.result c.parts-test.true c.part-item.is in
     record {
       leads = λ q style at V z r run. c.parts.invariant.leads q style at _ _ _ (at_prog (ap (λ (ps : List Part). parts ps (opens c.parts.elements.items) (string_bytes c.parts.text)) item)
-          (c.in_ok-eval_part.ensures.runs q style (still_at _ _ c.args.place q style c.parts.invariant.keeps.steady at) _ V z r run));
+          (c.in_ok-eval_part.ensures.runs q style (still_at c.args.tree.now c.parts.tree c.args.place q style c.parts.invariant.here at) _ V z r run));
       short = c.in_ok-eval_part.ensures.short;
+      here = here-trans c.args.tree.now c.parts.tree c.eval_part.new.tree c.args.place c.parts.invariant.here c.in_ok-eval_part.ensures.here;
       keeps = keeps-trans c.parts.invariant.keeps c.eval_part.ensures.keeps;
     }
 
@@ -541,15 +546,13 @@ commands::call_procedure-returns-clause-runs g t c =
     c.eval_value-ended.ensures.runs c.left_proc.ensures
     (λ e f h l q style at.
     let n = stands (tree_of c.args.tree.now q) (tree_there c.args.tree.now q _ at.names) in
-    let here = still_at c.args.tree.now c.enter_frame.new.tree c.args.place q style (level_steady _ _ c.in_ok-enter_frame.ensures.level) at in
-    let after = still_at c.enter_frame.new.tree c.eval_value-ended.new.tree c.args.place q style c.eval_value-ended.ensures.keeps.steady here in
-    let m = stands (tree_of c.eval_value-ended.new.tree q) (tree_there c.eval_value-ended.new.tree q _ after.names) in
+    let here = still_at c.args.tree.now c.enter_frame.new.tree c.args.place q style (level_here _ _ c.args.place c.in_ok-enter_frame.ensures.level) at in
     let entered = c.in_ok-enter_frame.ensures.entered q n.0 at.names n.1 in
     let ws = c.in_ok-words.ensures in
     let bs = c.as_slice.ensures.value in
     call_runs style c.args.procedure.now c.args.word.now c.args.args.now (pairs_of c.in-Some.bindings.items) e f
     (ap (λ (ps : List Parameter). bindings ps c.args.args.now) (sym c.parameters.ensures) ∙ found.0) found.1 n.1
-    (entered ∙ (λ i. effect q (Changed (in_frame (ws i) (pairs_of (bs i)) n.0.own)) (tree_of c.args.tree.now))) m.1 (c.leave_frame.ensures.left q m.0 after.names m.1)
+    (entered ∙ (λ i. effect q (Changed (in_frame (ws i) (pairs_of (bs i)) n.0.own)) (tree_of c.args.tree.now))) (c.leave_frame.ensures.left q n.0.depth (subst (λ (d : ℕ). Holds c.eval_value-ended.new.tree c.args.place q d) (ap depth_of n.1) (steady_holds c.args.tree.now c.eval_value-ended.new.tree c.args.place q (steady-trans c.args.tree.now c.enter_frame.new.tree c.eval_value-ended.new.tree (level_steady c.args.tree.now c.enter_frame.new.tree c.enter_frame.ensures.level) c.eval_value-ended.ensures.keeps.steady) at.names at.running)))
     (at_prog (ap script (sym (c.in_ok-body.ensures.cases ∙ c.body.ensures))) (h q style (record { names = here.names; style_is = here.style_is }))) l)
 
 pub commands::call-returns-in_default-clause-runs : goal.commands::call-returns-in_default-clause-runs
@@ -611,7 +614,7 @@ control::catch-returns-in_err-keep_caught-clause-runs g t c =
     c.in_ok-completion.was c.caught.ensures c.eval_value.ensures.runs in
     fails_err c.from_residual-in_err-keep_caught.result c.in_err-keep_caught.field-0.0 p.0 _ _ _ p.1 p.2 c.in_err-keep_caught.ensures.kept
     (λ e h q style at.
-    let after = still_at _ _ c.args.place q style c.eval_value.ensures.keeps.steady at in
+    let after = still_at c.args.tree.now c.eval_value.new.tree c.args.place q style (here_caught c.eval_value.result c.caught.result c.in_ok-completion.completion c.args.tree.now c.eval_value.new.tree c.args.place c.in_ok-completion.was c.caught.ensures c.eval_value.ensures.here) at in
     at_prog (ap control_catch (split_first c.args.args.now c.script-item.result c.in-len1-up.len_at_least c.script-item.is))
     (catch_goes style c.script-item.result _ (completion_of c.in_ok-completion.completion) (omega (arith, few))
     (at_prog (ap script (sym c.in_ok-script.ensures.cases)) (caught q style (record { names = at.names; style_is = at.style_is })))
@@ -626,7 +629,7 @@ control::catch-returns-clause-runs g t c = λ q style at.
     let few = c.if-names-gt2.false in
     let caught = caught_ok c.eval_value.result c.caught.result c.in_ok-completion.completion (EndsAt (ways g.O.Outside.goes g.O.Outside.loses) c.args.tree.now c.args.outside.now c.args.place (λ style. script c.in_ok-script.script) c.eval_value.new.tree c.eval_value.new.outside)
     c.in_ok-completion.was c.caught.ensures c.eval_value.ensures.runs in
-    let after = still_at _ _ c.args.place q style c.eval_value.ensures.keeps.steady at in
+    let after = still_at c.args.tree.now c.eval_value.new.tree c.args.place q style (here_caught c.eval_value.result c.caught.result c.in_ok-completion.completion c.args.tree.now c.eval_value.new.tree c.args.place c.in_ok-completion.was c.caught.ensures c.eval_value.ensures.here) at in
     let code : c.from_int.result ≡ code_text (completion_of c.in_ok-completion.completion) = search rules in
     at_prog (ap control_catch (split_first c.args.args.now c.script-item.result c.in-len1-up.len_at_least c.script-item.is))
     (catch_goes style c.script-item.result _ (completion_of c.in_ok-completion.completion) (omega (arith, few))
@@ -673,11 +676,10 @@ crossing::call_target-call-ended-requires g t c κs within =
     (search rules, (search rules, (p, c.in_default.ensures.keys p ∙ names, begun_at c.args.tree.now c.nest_at.new.self c.args.place p names free.1)))
 
 pub crossing::call_target-unnest-requires : goal.crossing::call_target-unnest-requires
-crossing::call_target-unnest-requires g t c =
-    let p = c.requires.0 in
-    let names = c.requires.1 in
-    let free = c.in_default.ensures.nested p names in
-    (p, c.call-ended.ensures.keeps.steady.keys p _ (c.in_default.ensures.keys p ∙ names) (begun_at c.args.tree.now c.nest_at.new.self c.args.place p names free.1))
+crossing::call_target-unnest-requires g t c = (
+  (c.requires.0, (1, nested_holds c.args.tree.now c.nest_at.new.self c.call-ended.new.tree c.args.place c.requires.0 c.requires.1 c.in_default.ensures.keys c.in_default.ensures.deeper (c.in_default.ensures.nested c.requires.0 c.requires.1).1 c.call-ended.ensures.keeps.steady)),
+  nested_innermost c.args.tree.now c.nest_at.new.self c.call-ended.new.tree c.args.place c.requires.0 c.requires.1 c.in_default.ensures.keys c.in_default.ensures.deeper (c.in_default.ensures.nested c.requires.0 c.requires.1).1 c.call-ended.ensures.keeps.steady,
+)
 
 pub crossing::call_target-returns-clause-runs : goal.crossing::call_target-returns-clause-runs
 crossing::call_target-returns-clause-runs g t c =
@@ -688,29 +690,24 @@ crossing::call_target-returns-clause-runs g t c =
     let free = c.in_default.ensures.nested q at.names in
     let running = begun_at c.args.tree.now c.nest_at.new.self c.args.place q at.names free.1 in
     let names = c.in_default.ensures.keys q ∙ at.names in
-    target_ends style c.args.words.now free.0 free.1 (c.unnest.ensures.unnested q (c.call-ended.ensures.keeps.steady.keys q _ names running))
+    target_ends style c.args.words.now free.0 free.1 (c.unnest.ensures.unnested q 1 (nested_holds c.args.tree.now c.nest_at.new.self c.call-ended.new.tree c.args.place q at.names c.in_default.ensures.keys c.in_default.ensures.deeper (c.in_default.ensures.nested q at.names).1 c.call-ended.ensures.keeps.steady))
     (h q style (record { names = names; style_is = ap (λ m. m.integers) c.in_default.ensures.marks ∙ at.style_is; running = running })))
     c.call-ended.ensures.runs
 
 pub crossing::call_target-returns-in-Err-clause-keeps : goal.crossing::call_target-returns-in-Err-clause-keeps
-crossing::call_target-returns-in-Err-clause-keeps g t c = level_keeps _ (same_level c.args.tree.now c.nest_at.new.self c.in-Err.ensures.marks c.in-Err.ensures.keys (c.in-Err.ensures.refused c.requires.0 c.requires.1).1)
+crossing::call_target-returns-in-Err-clause-keeps g t c = level_keeps _ (same_level c.args.tree.now c.nest_at.new.self c.in-Err.ensures.marks c.in-Err.ensures.keys c.in-Err.ensures.held (c.in-Err.ensures.refused c.requires.0 c.requires.1).1)
 
 pub crossing::call_target-returns-clause-keeps : goal.crossing::call_target-returns-clause-keeps
-crossing::call_target-returns-clause-keeps g t c =
-    let p = c.requires.0 in
-    let names = c.requires.1 in
-    let free = c.in_default.ensures.nested p names in
-    let running = begun_at c.args.tree.now c.nest_at.new.self c.args.place p names free.1 in
-    record {
-      steady = nested_steady c.args.tree.now c.nest_at.new.self c.call-ended.new.tree c.unnest.new.self p c.in_default.ensures.marks c.in_default.ensures.keys free.1 c.call-ended.ensures.keeps.steady
-          c.unnest.ensures.marks c.unnest.ensures.keys (c.unnest.ensures.unnested p (c.call-ended.ensures.keeps.steady.keys p _ (c.in_default.ensures.keys p ∙ names) running));
-      left = c.call-ended.ensures.keeps.left;
-    }
+crossing::call_target-returns-clause-keeps g t c = record {
+  steady = nested_steady c.args.tree.now c.nest_at.new.self c.call-ended.new.tree c.args.place c.requires.0 c.requires.1 c.in_default.ensures.keys c.in_default.ensures.deeper (c.in_default.ensures.nested c.requires.0 c.requires.1).1 c.call-ended.ensures.keeps.steady
+      c.unnest.new.self c.unnest.ensures.keys c.unnest.ensures.shallower (c.unnest.ensures.unnested c.requires.0 1 (nested_holds c.args.tree.now c.nest_at.new.self c.call-ended.new.tree c.args.place c.requires.0 c.requires.1 c.in_default.ensures.keys c.in_default.ensures.deeper (c.in_default.ensures.nested c.requires.0 c.requires.1).1 c.call-ended.ensures.keeps.steady)) c.in_default.ensures.marks c.unnest.ensures.marks;
+  left = c.call-ended.ensures.keeps.left;
+}
 
 -- what stays as it is
 
 pub evaluation::eval_command-eval_word-requires : goal.evaluation::eval_command-eval_word-requires
-evaluation::eval_command-eval_word-requires g t c κs within = (search rules, (search rules, still_running _ _ c.args.place c.words.invariant.keeps.steady c.requires.running))
+evaluation::eval_command-eval_word-requires g t c κs within = (search rules, (search rules, still_running c.args.tree.now c.words.tree c.args.place c.words.invariant.here c.requires.running))
 
 pub evaluation::eval_command-returns-in_err-text-clause-keeps : goal.evaluation::eval_command-returns-in_err-text-clause-keeps
 evaluation::eval_command-returns-in_err-text-clause-keeps g t c = keeps-trans c.words.invariant.keeps c.eval_word.ensures.keeps
@@ -719,7 +716,7 @@ pub evaluation::eval_command-returns-in_err-spread-clause-keeps : goal.evaluatio
 evaluation::eval_command-returns-in_err-spread-clause-keeps g t c = keeps-trans c.words.invariant.keeps c.eval_word.ensures.keeps
 
 pub evaluation::eval_command-call-requires : goal.evaluation::eval_command-call-requires
-evaluation::eval_command-call-requires g t c κs within = (search rules, (search rules, still_running _ _ c.args.place (steady-trans _ _ _ c.words.invariant.keeps.steady (level_steady _ _ c.charge.ensures.level)) c.requires.running))
+evaluation::eval_command-call-requires g t c κs within = (search rules, (search rules, still_running c.args.tree.now c.charge.new.tree c.args.place (here-trans c.args.tree.now c.words.tree c.charge.new.tree c.args.place c.words.invariant.here (level_here _ _ c.args.place c.charge.ensures.level)) c.requires.running))
 
 pub evaluation::eval_command-returns-in_err-charge-clause-keeps : goal.evaluation::eval_command-returns-in_err-charge-clause-keeps
 evaluation::eval_command-returns-in_err-charge-clause-keeps g t c = keeps-trans c.words.invariant.keeps (charged_keeps c.charge.ensures.level c.charge.ensures.left)
@@ -731,7 +728,7 @@ pub evaluation::eval_commands-returns-in_err-last-clause-keeps : goal.evaluation
 evaluation::eval_commands-returns-in_err-last-clause-keeps g t c = keeps-trans c.commands.invariant.keeps c.eval_command.ensures.keeps
 
 pub evaluation::substitute-eval_part-requires : goal.evaluation::substitute-eval_part-requires
-evaluation::substitute-eval_part-requires g t c κs within = (search rules, (search rules, (still_running _ _ c.args.place c.parts.invariant.keeps.steady c.requires.running, c.parts.invariant.short)))
+evaluation::substitute-eval_part-requires g t c κs within = (search rules, (search rules, (still_running c.args.tree.now c.parts.tree c.args.place c.parts.invariant.here c.requires.running, c.parts.invariant.short)))
 
 pub evaluation::substitute-returns-in_err-eval_part-clause-keeps : goal.evaluation::substitute-returns-in_err-eval_part-clause-keeps
 evaluation::substitute-returns-in_err-eval_part-clause-keeps g t c = keeps-trans c.parts.invariant.keeps c.eval_part.ensures.keeps
@@ -777,56 +774,36 @@ crossing::serve_eval-returns-clause-runs g t c =
 
 pub crossing::invoke-returns-in-Err-clause-runs : goal.crossing::invoke-returns-in-Err-clause-runs
 crossing::invoke-returns-in-Err-clause-runs g t c = breaks c.too_deep.result (λ e. e ≡ too_deep_at c.in-Err.levels) _ (λ e h q style at.
-    let no = c.in-Err.ensures.refused q at.names in unhidden_refused style c.args.words.now c.in-Err.levels no.0 no.1 h) (λ q style at. stopped) c.too_deep.ensures
-
-pub crossing::invoke-call_hidden-ended-requires : goal.crossing::invoke-call_hidden-ended-requires
-crossing::invoke-call_hidden-ended-requires g t c κs within =
-    let p = c.requires.0 in
-    let names = c.requires.1 in
-    let free = c.in_default.ensures.nested p names in
-    let top = stands (tree_of c.args.tree.now []) (top_there c.args.tree.now) in
-    let fewer = less_room (tree_of c.args.tree.now) (tree_of c.nest_at.new.self) p top.0 top.1 (c.keeps_form.ensures.most [] top.0 top.1) free.0 free.1 in
-    (search rules, (search rules, (p, c.in_default.ensures.keys p ∙ names, begun_at c.args.tree.now c.nest_at.new.self c.args.place p names free.1)))
+    let no = c.in-Err.ensures.refused q at.names in unhidden_refused style c.args.is_global c.args.words.now c.in-Err.levels no.0 no.1 h) (λ q style at. stopped) c.too_deep.ensures
 
 pub crossing::invoke-unnest-requires : goal.crossing::invoke-unnest-requires
-crossing::invoke-unnest-requires g t c =
-    let p = c.requires.0 in
-    let names = c.requires.1 in
-    let free = c.in_default.ensures.nested p names in
-    (p, c.call_hidden-ended.ensures.keeps.steady.keys p _ (c.in_default.ensures.keys p ∙ names) (begun_at c.args.tree.now c.nest_at.new.self c.args.place p names free.1))
-
-pub crossing::invoke-returns-clause-there : goal.crossing::invoke-returns-clause-there
-crossing::invoke-returns-clause-there g t c = λ p names.
-    let free = c.in_default.ensures.nested p names in
-    c.unnest.ensures.keys p ∙ c.call_hidden-ended.ensures.keeps.steady.keys p _ (c.in_default.ensures.keys p ∙ names) (begun_at c.args.tree.now c.nest_at.new.self c.args.place p names free.1)
+crossing::invoke-unnest-requires g t c = (
+  (c.requires.0, (1, nested_holds c.args.tree.now c.nest_at.new.self c.invoke_at-ended.new.tree c.args.place c.requires.0 c.requires.1 c.in_default.ensures.keys c.in_default.ensures.deeper (c.in_default.ensures.nested c.requires.0 c.requires.1).1 c.invoke_at-ended.ensures.keeps.steady)),
+  nested_innermost c.args.tree.now c.nest_at.new.self c.invoke_at-ended.new.tree c.args.place c.requires.0 c.requires.1 c.in_default.ensures.keys c.in_default.ensures.deeper (c.in_default.ensures.nested c.requires.0 c.requires.1).1 c.invoke_at-ended.ensures.keeps.steady,
+)
 
 pub crossing::invoke-returns-clause-runs : goal.crossing::invoke-returns-clause-runs
 crossing::invoke-returns-clause-runs g t c =
-    IfRan-more c.call_hidden-ended.result
-    (EndsFrom (ways g.O.Outside.goes g.O.Outside.loses) c.nest_at.new.self c.args.outside.now c.args.place (λ style. invoked style c.args.words.now) c.call_hidden-ended.new.tree c.call_hidden-ended.new.outside)
-    (EndsAt (ways g.O.Outside.goes g.O.Outside.loses) c.args.tree.now c.args.outside.now c.args.place (λ style. unhidden c.args.words.now) c.unnest.new.self c.call_hidden-ended.new.outside)
+    IfRan-more c.invoke_at-ended.result
+    (EndsFrom (ways g.O.Outside.goes g.O.Outside.loses) c.nest_at.new.self c.args.outside.now c.args.place (λ style. hidden_at style c.args.is_global c.args.words.now) c.invoke_at-ended.new.tree c.invoke_at-ended.new.outside)
+    (EndsAt (ways g.O.Outside.goes g.O.Outside.loses) c.args.tree.now c.args.outside.now c.args.place (λ style. unhidden c.args.is_global c.args.words.now) c.unnest.new.self c.invoke_at-ended.new.outside)
     (λ e h q style at.
     let free = c.in_default.ensures.nested q at.names in
     let running = begun_at c.args.tree.now c.nest_at.new.self c.args.place q at.names free.1 in
     let names = c.in_default.ensures.keys q ∙ at.names in
-    unhidden_ends style c.args.words.now free.0 free.1 (c.unnest.ensures.unnested q (c.call_hidden-ended.ensures.keeps.steady.keys q _ names running))
+    unhidden_ends style c.args.is_global c.args.words.now free.0 free.1 (c.unnest.ensures.unnested q 1 (nested_holds c.args.tree.now c.nest_at.new.self c.invoke_at-ended.new.tree c.args.place q at.names c.in_default.ensures.keys c.in_default.ensures.deeper (c.in_default.ensures.nested q at.names).1 c.invoke_at-ended.ensures.keeps.steady))
     (h q style (record { names = names; style_is = ap (λ m. m.integers) c.in_default.ensures.marks ∙ at.style_is; running = running })))
-    c.call_hidden-ended.ensures.runs
+    c.invoke_at-ended.ensures.runs
 
 pub crossing::invoke-returns-in-Err-clause-keeps : goal.crossing::invoke-returns-in-Err-clause-keeps
-crossing::invoke-returns-in-Err-clause-keeps g t c = level_keeps _ (same_level c.args.tree.now c.nest_at.new.self c.in-Err.ensures.marks c.in-Err.ensures.keys (c.in-Err.ensures.refused c.requires.0 c.requires.1).1)
+crossing::invoke-returns-in-Err-clause-keeps g t c = level_keeps _ (same_level c.args.tree.now c.nest_at.new.self c.in-Err.ensures.marks c.in-Err.ensures.keys c.in-Err.ensures.held (c.in-Err.ensures.refused c.requires.0 c.requires.1).1)
 
 pub crossing::invoke-returns-clause-keeps : goal.crossing::invoke-returns-clause-keeps
-crossing::invoke-returns-clause-keeps g t c =
-    let p = c.requires.0 in
-    let names = c.requires.1 in
-    let free = c.in_default.ensures.nested p names in
-    let running = begun_at c.args.tree.now c.nest_at.new.self c.args.place p names free.1 in
-    record {
-      steady = nested_steady c.args.tree.now c.nest_at.new.self c.call_hidden-ended.new.tree c.unnest.new.self p c.in_default.ensures.marks c.in_default.ensures.keys free.1 c.call_hidden-ended.ensures.keeps.steady
-          c.unnest.ensures.marks c.unnest.ensures.keys (c.unnest.ensures.unnested p (c.call_hidden-ended.ensures.keeps.steady.keys p _ (c.in_default.ensures.keys p ∙ names) running));
-      left = c.call_hidden-ended.ensures.keeps.left;
-    }
+crossing::invoke-returns-clause-keeps g t c = record {
+  steady = nested_steady c.args.tree.now c.nest_at.new.self c.invoke_at-ended.new.tree c.args.place c.requires.0 c.requires.1 c.in_default.ensures.keys c.in_default.ensures.deeper (c.in_default.ensures.nested c.requires.0 c.requires.1).1 c.invoke_at-ended.ensures.keeps.steady
+      c.unnest.new.self c.unnest.ensures.keys c.unnest.ensures.shallower (c.unnest.ensures.unnested c.requires.0 1 (nested_holds c.args.tree.now c.nest_at.new.self c.invoke_at-ended.new.tree c.args.place c.requires.0 c.requires.1 c.in_default.ensures.keys c.in_default.ensures.deeper (c.in_default.ensures.nested c.requires.0 c.requires.1).1 c.invoke_at-ended.ensures.keeps.steady)) c.in_default.ensures.marks c.unnest.ensures.marks;
+  left = c.invoke_at-ended.ensures.keeps.left;
+}
 
 pub commands::call_hidden-returns-in_default-clause-runs : goal.commands::call_hidden-returns-in_default-clause-runs
 commands::call_hidden-returns-in_default-clause-runs g t c = λ q style at.
@@ -864,10 +841,10 @@ crossing::serve_hidden-returns-in_err-words-clause-runs g t c =
 
 pub crossing::serve_hidden-returns-clause-runs : goal.crossing::serve_hidden-returns-clause-runs
 crossing::serve_hidden-returns-clause-runs g t c =
-    settled_more c.invoke_at-ended.result c.settled.result
-    (λ e. (p : Path) (style : Integers) → IsThere c.charge.new.tree c.args.place p style → GoesOn (ways g.O.Outside.goes g.O.Outside.loses) style (tree_of c.charge.new.tree) c.charge.new.outside p (invokes_at c.args.is_global c.as_slice.result.now) (tree_of c.invoke_at-ended.new.tree) c.invoke_at-ended.new.outside e)
-    (EndsAt (ways g.O.Outside.goes g.O.Outside.loses) c.args.tree.now c.args.outside.now c.args.place (λ style. serve style (InvokeHidden c.args.is_global c.args.words.items)) c.invoke_at-ended.new.tree c.invoke_at-ended.new.outside)
-    c.invoke_at-ended.ensures.runs c.settled.ensures
+    settled_more c.invoke-ended.result c.settled.result
+    (EndsAt (ways g.O.Outside.goes g.O.Outside.loses) c.charge.new.tree c.charge.new.outside c.args.place (λ style. unhidden c.args.is_global c.as_slice.result.now) c.invoke-ended.new.tree c.invoke-ended.new.outside)
+    (EndsAt (ways g.O.Outside.goes g.O.Outside.loses) c.args.tree.now c.args.outside.now c.args.place (λ style. serve style (InvokeHidden c.args.is_global c.args.words.items)) c.invoke-ended.new.tree c.invoke-ended.new.outside)
+    c.invoke-ended.ensures.runs c.settled.ensures
     (λ e f h l q style at.
     let counts = c.in_ok-charge.ensures.counted q at.names in
     hidden_settles style c.args.is_global c.args.words.items c.as_slice.result.now e f (search rules) counts l
@@ -876,27 +853,25 @@ crossing::serve_hidden-returns-clause-runs g t c =
 pub crossing::invoke_at-returns-then-not-is_global-clause-runs : goal.crossing::invoke_at-returns-then-not-is_global-clause-runs
 crossing::invoke_at-returns-then-not-is_global-clause-runs g t c =
     let here : c.args.is_global ≡ false = search rules in
-    IfRan-more c.invoke.result (EndsAt (ways g.O.Outside.goes g.O.Outside.loses) c.args.tree.now c.args.outside.now c.args.place (λ style. unhidden c.args.words.now) c.invoke.new.tree c.invoke.new.outside)
-    (λ e. (p : Path) (style : Integers) → IsThere c.args.tree.now c.args.place p style → GoesOn (ways g.O.Outside.goes g.O.Outside.loses) style (tree_of c.args.tree.now) c.args.outside.now p (invokes_at c.args.is_global c.args.words.now) (tree_of c.invoke.new.tree) c.invoke.new.outside e)
-    (λ e h q style at. invokes_here style c.args.is_global c.args.words.now e here (h q style at)) c.invoke.ensures.runs
+    IfRan-more c.call_hidden.result (EndsFrom (ways g.O.Outside.goes g.O.Outside.loses) c.args.tree.now c.args.outside.now c.args.place (λ style. invoked style c.args.words.now) c.call_hidden.new.tree c.call_hidden.new.outside)
+    (EndsFrom (ways g.O.Outside.goes g.O.Outside.loses) c.args.tree.now c.args.outside.now c.args.place (λ style. hidden_at style c.args.is_global c.args.words.now) c.call_hidden.new.tree c.call_hidden.new.outside)
+    (λ e h q style at. hidden_here style c.args.is_global c.args.words.now e here (h q style at)) c.call_hidden.ensures.runs
 
 pub crossing::invoke_at-returns-in_err-set_aside-clause-runs : goal.crossing::invoke_at-returns-in_err-set_aside-clause-runs
 crossing::invoke_at-returns-in_err-set_aside-clause-runs g t c =
     let p = err_from_is_err_and c.from_residual.result c.from_residual.ensures.1 in
-    memory_err c.from_residual.result p.0 _ _ p.1 (p.2 ∙ c.in_err-set_aside.ensures.memory) (λ q style at k. stopped)
+    memory_err c.from_residual.result p.0 _ _ p.1 (p.2 ∙ c.in_err-set_aside.ensures.memory) (λ q style at. stopped)
 
 pub crossing::invoke_at-returns-clause-runs : goal.crossing::invoke_at-returns-clause-runs
 crossing::invoke_at-returns-clause-runs g t c =
     let yes : c.args.is_global ≡ true = search rules in
-    IfRan-more c.invoke-ended.result (EndsAt (ways g.O.Outside.goes g.O.Outside.loses) c.set_aside.new.tree c.args.outside.now c.args.place (λ style. unhidden c.args.words.now) c.invoke-ended.new.tree c.invoke-ended.new.outside)
-    (λ e. (p : Path) (style : Integers) → IsThere c.args.tree.now c.args.place p style → GoesOn (ways g.O.Outside.goes g.O.Outside.loses) style (tree_of c.args.tree.now) c.args.outside.now p (invokes_at c.args.is_global c.args.words.now) (tree_of c.bring_back.new.tree) c.invoke-ended.new.outside e)
+    IfRan-more c.call_hidden-ended.result (EndsFrom (ways g.O.Outside.goes g.O.Outside.loses) c.set_aside.new.tree c.args.outside.now c.args.place (λ style. invoked style c.args.words.now) c.call_hidden-ended.new.tree c.call_hidden-ended.new.outside)
+    (EndsFrom (ways g.O.Outside.goes g.O.Outside.loses) c.args.tree.now c.args.outside.now c.args.place (λ style. hidden_at style c.args.is_global c.args.words.now) c.bring_back.new.tree c.call_hidden-ended.new.outside)
     (λ e h q style at.
     let n = stands (tree_of c.args.tree.now q) (tree_there c.args.tree.now q _ at.names) in
-    let names = c.set_aside.ensures.level.keys q ∙ at.names in
-    let after = c.invoke-ended.ensures.there q names in
-    let m = stands (tree_of c.invoke-ended.new.tree q) (tree_there c.invoke-ended.new.tree q _ after) in
-    invokes_global style (tree_of c.args.tree.now) c.args.is_global c.args.words.now e yes n.1 (c.in_ok-set_aside.ensures.aside q n.0 at.names n.1) m.1 (c.bring_back.ensures.back q m.0 after m.1)
-    (h q style (record { names = names; style_is = ap (λ m. m.integers) c.set_aside.ensures.level.marks ∙ at.style_is }))) c.invoke-ended.ensures.runs
+    let here = still_at c.args.tree.now c.set_aside.new.tree c.args.place q style (level_here c.args.tree.now c.set_aside.new.tree c.args.place c.set_aside.ensures.level) at in
+    hidden_global style (tree_of c.args.tree.now) c.args.is_global c.args.words.now e yes n.1 (c.in_ok-set_aside.ensures.aside q n.0 at.names n.1) (c.bring_back.ensures.back q n.0.depth (subst (λ (d : ℕ). Holds c.call_hidden-ended.new.tree c.args.place q d) (ap depth_of n.1) (steady_holds c.args.tree.now c.call_hidden-ended.new.tree c.args.place q (steady-trans c.args.tree.now c.set_aside.new.tree c.call_hidden-ended.new.tree (level_steady c.args.tree.now c.set_aside.new.tree c.set_aside.ensures.level) c.call_hidden-ended.ensures.keeps.steady) at.names at.running)))
+    (h q style here)) c.call_hidden-ended.ensures.runs
 
 -- # Expressions, and the commands with conditions
 
@@ -922,7 +897,7 @@ expressions::expression-returns-in_err-value-in-Wants-clause-runs g t c =
     let same = c.integers-style.ensures ∙ at.style_is in
     c.parts.invariant.leads q style at text is _ _ _
     (Conditions.wants_part style c.integers-style.result c.args.kept.now.nodes.items c.parts.evaluation.next c.next_part.new.evaluation.next c.parts.evaluation.values.items c.next_part.new.evaluation.values.items c.in-Wants.word.now same wants
-    (Conditions.part_stays style c.in-Wants.word.now (λ v. from style c.args.kept.now.nodes.items c.next_part.new.evaluation.next (c.next_part.new.evaluation.values.items ++ v ∷ [])) (settles style) e h.1 (h.0 q style (still_at _ _ c.args.place q style c.parts.invariant.keeps.steady at)))))
+    (Conditions.part_stays style c.in-Wants.word.now (λ v. from style c.args.kept.now.nodes.items c.next_part.new.evaluation.next (c.next_part.new.evaluation.values.items ++ v ∷ [])) (settles style) e h.1 (h.0 q style (still_at c.args.tree.now c.parts.tree c.args.place q style c.parts.invariant.here at)))))
 
 pub expressions::expression-returns-in_err-supply-in-Wants-clause-runs : goal.expressions::expression-returns-in_err-supply-in-Wants-clause-runs
 expressions::expression-returns-in_err-supply-in-Wants-clause-runs g t c =
@@ -936,7 +911,7 @@ expressions::expression-returns-in_err-supply-in-Wants-clause-runs g t c =
     let same = c.integers-style.ensures ∙ at.style_is in
     c.parts.invariant.leads q style at text is _ _ _
     (Conditions.wants_part style c.integers-style.result c.args.kept.now.nodes.items c.parts.evaluation.next c.next_part.new.evaluation.next c.parts.evaluation.values.items c.next_part.new.evaluation.values.items c.in-Wants.word.now same wants
-    (Conditions.part_goes style c.in-Wants.word.now (λ v. from style c.args.kept.now.nodes.items c.next_part.new.evaluation.next (c.next_part.new.evaluation.values.items ++ v ∷ [])) (settles style) x.0 c.in_ok-value-in-Wants.value x.2 x.3 (x.1 q style (still_at _ _ c.args.place q style c.parts.invariant.keeps.steady at))
+    (Conditions.part_goes style c.in-Wants.word.now (λ v. from style c.args.kept.now.nodes.items c.next_part.new.evaluation.next (c.next_part.new.evaluation.values.items ++ v ∷ [])) (settles style) x.0 c.in_ok-value-in-Wants.value x.2 x.3 (x.1 q style (still_at c.args.tree.now c.parts.tree c.args.place q style c.parts.invariant.here at))
     stopped)))
 
 pub expressions::expression-returns-in-Done-clause-runs : goal.expressions::expression-returns-in-Done-clause-runs
@@ -960,8 +935,9 @@ expressions::expression-parts-preserved g t c =
           let same = c.integers-style.ensures ∙ at.style_is in
           c.parts.invariant.leads q style at text is _ _ _
           (Conditions.wants_part style c.integers-style.result c.args.kept.now.nodes.items c.parts.evaluation.next c.next_part.new.evaluation.next c.parts.evaluation.values.items c.next_part.new.evaluation.values.items c.in-Wants.word.now same wants
-          (Conditions.part_goes style c.in-Wants.word.now (λ v. from style c.args.kept.now.nodes.items c.next_part.new.evaluation.next (c.next_part.new.evaluation.values.items ++ v ∷ [])) (settles style) x.0 c.in_ok-value-in-Wants.value x.2 x.3 (x.1 q style (still_at _ _ c.args.place q style c.parts.invariant.keeps.steady at))
+          (Conditions.part_goes style c.in-Wants.word.now (λ v. from style c.args.kept.now.nodes.items c.next_part.new.evaluation.next (c.next_part.new.evaluation.values.items ++ v ∷ [])) (settles style) x.0 c.in_ok-value-in-Wants.value x.2 x.3 (x.1 q style (still_at c.args.tree.now c.parts.tree c.args.place q style c.parts.invariant.here at))
           (at_prog (λ i. computed (from style c.args.kept.now.nodes.items (sym c.in_ok-supply-in-Wants.ensures.next i) (sym c.in_ok-supply-in-Wants.ensures.values i)) (settles style)) run)));
+      here = here-trans c.args.tree.now c.parts.tree c.eval_word.new.tree c.args.place c.parts.invariant.here (here_text c.eval_word.result c.in_ok-value-in-Wants.value c.parts.tree c.eval_word.new.tree c.args.place c.in_ok-value-in-Wants.ensures.text c.eval_word.ensures.here);
       keeps = keeps-trans c.parts.invariant.keeps c.eval_word.ensures.keeps;
     }
 
@@ -1037,6 +1013,7 @@ expressions::if_first-tests-init g t c =
     let some : branches_of c.args.args.now ≡ Some (seen c.in-Some.branches) = search rules in
     record {
       leads = λ q style at V z r run. Conditions.if_begins style c.args.args.now (seen c.in-Some.branches) some (at_prog (ap (λ (bs : List Branch). first_true style (tests_of bs) (option_copied c.in-Some.branches.last)) (sym c.deref-branch-items.ensures.value)) run);
+      here = here-refl c.args.tree.now c.args.place;
       keeps = keeps-refl _ _;
     }
 
@@ -1046,7 +1023,7 @@ expressions::if_first-returns-in_err-test-clause-runs g t c =
     let p = err_from_is_err_and c.from_residual-in_err-test.result c.from_residual-in_err-test.ensures.1 in
     fails_err c.from_residual-in_err-test.result c.in_err-test.field-0.0 p.0 _ _ _ p.1 p.2 c.in_err-test.ensures.refused
     (λ e h q style at.
-    let here = still_at _ _ c.args.place q style c.tests.invariant.keeps.steady at in
+    let here = still_at c.args.tree.now c.tests.tree c.args.place q style c.tests.invariant.here at in
     let same = c.integers.ensures ∙ here.style_is in
     c.tests.invariant.leads q style at _ _ _ (at_prog (ap (λ (bs : List Branch). first_true style (tests_of bs) (option_copied c.in-Some.branches.last)) item)
     (Conditions.test_misread style c.branch-item.result.test.now _ e (Conditions.misread_in c.integers.result style c.branch-item.result.test.now e same h))))
@@ -1058,7 +1035,7 @@ expressions::if_first-returns-in_err-condition-clause-runs g t c =
     let p = err_from_is_err_and c.from_residual-in_err-condition.result c.from_residual-in_err-condition.ensures.1 in
     ran_err c.from_residual-in_err-condition.result c.in_err-condition.field-0.0 p.0 _ _ _ p.1 p.2 c.in_err-condition.ensures.runs
     (λ e h q style at.
-    let here = still_at _ _ c.args.place q style c.tests.invariant.keeps.steady at in
+    let here = still_at c.args.tree.now c.tests.tree c.args.place q style c.tests.invariant.here at in
     let same = c.integers.ensures ∙ here.style_is in
     c.tests.invariant.leads q style at _ _ _ (at_prog (ap (λ (bs : List Branch). first_true style (tests_of bs) (option_copied c.in-Some.branches.last)) item)
     (h q style here c.branch-item.result.test.now (Conditions.kept_behind c.integers.result style c.branch-item.result.test.now c.in_ok-test.test.value c.deref.result.now c.deref.ensures same c.in_ok-test.ensures.read) _)))
@@ -1070,7 +1047,7 @@ expressions::if_first-returns-in_err-body-clause-runs g t c =
     let p = err_from_is_err_and c.from_residual-in_err-body.result c.from_residual-in_err-body.ensures.1 in
     memory_err c.from_residual-in_err-body.result p.0 _ _ p.1 p.2
     (λ q style at.
-    let here = still_at _ _ c.args.place q style c.tests.invariant.keeps.steady at in
+    let here = still_at c.args.tree.now c.tests.tree c.args.place q style c.tests.invariant.here at in
     let same = c.integers.ensures ∙ here.style_is in
     c.tests.invariant.leads q style at _ _ _ (at_prog (ap (λ (bs : List Branch). first_true style (tests_of bs) (option_copied c.in-Some.branches.last)) item)
     (holds q style here c.branch-item.result.test.now (Conditions.kept_behind c.integers.result style c.branch-item.result.test.now c.in_ok-test.test.value c.deref.result.now c.deref.ensures same c.in_ok-test.ensures.read) _ _ _ _ stopped)))
@@ -1083,8 +1060,8 @@ expressions::if_first-returns-then-branch-clause-runs g t c =
     (EndsAt (ways g.O.Outside.goes g.O.Outside.loses) c.condition.new.tree c.condition.new.outside c.args.place (λ style. script c.in_ok-body.body) c.eval_value.new.tree c.eval_value.new.outside)
     (EndsFrom (ways g.O.Outside.goes g.O.Outside.loses) c.args.tree.now c.args.outside.now c.args.place (λ style. if_first style c.args.args.now) c.eval_value.new.tree c.eval_value.new.outside)
     (λ e h q style at.
-    let here = still_at _ _ c.args.place q style c.tests.invariant.keeps.steady at in
-    let after = still_at _ _ c.args.place q style c.condition.ensures.keeps.steady here in
+    let here = still_at c.args.tree.now c.tests.tree c.args.place q style c.tests.invariant.here at in
+    let after = still_at _ _ c.args.place q style c.in_ok-condition.ensures.here here in
     let same = c.integers.ensures ∙ here.style_is in
     c.tests.invariant.leads q style at _ _ _ (at_prog (ap (λ (bs : List Branch). first_true style (tests_of bs) (option_copied c.in-Some.branches.last)) item)
     (holds q style here c.branch-item.result.test.now (Conditions.kept_behind c.integers.result style c.branch-item.result.test.now c.in_ok-test.test.value c.deref.result.now c.deref.ensures same c.in_ok-test.ensures.read) _ _ _ _
@@ -1096,10 +1073,11 @@ expressions::if_first-tests-preserved g t c =
     let holds = subst (TestGoes (ways g.O.Outside.goes g.O.Outside.loses) c.tests.tree c.tests.outside c.args.place c.deref.result.now c.condition.new.tree c.condition.new.outside) c.if-branch.false c.in_ok-condition.ensures.runs in
     record {
       leads = λ q style at V z r run.
-          let here = still_at _ _ c.args.place q style c.tests.invariant.keeps.steady at in
+          let here = still_at c.args.tree.now c.tests.tree c.args.place q style c.tests.invariant.here at in
           let same = c.integers.ensures ∙ here.style_is in
           c.tests.invariant.leads q style at _ _ _ (at_prog (ap (λ (bs : List Branch). first_true style (tests_of bs) (option_copied c.in-Some.branches.last)) item)
           (holds q style here c.branch-item.result.test.now (Conditions.kept_behind c.integers.result style c.branch-item.result.test.now c.in_ok-test.test.value c.deref.result.now c.deref.ensures same c.in_ok-test.ensures.read) _ V z r run));
+      here = here-trans c.args.tree.now c.tests.tree c.condition.new.tree c.args.place c.tests.invariant.here c.in_ok-condition.ensures.here;
       keeps = keeps-trans c.tests.invariant.keeps c.condition.ensures.keeps;
     }
 
@@ -1122,7 +1100,7 @@ expressions::if_first-returns-clause-runs g t c =
     (EndsAt (ways g.O.Outside.goes g.O.Outside.loses) c.tests.tree c.tests.outside c.args.place (λ style. script c.in_ok-body-2.body) c.eval_value-2.new.tree c.eval_value-2.new.outside)
     (EndsFrom (ways g.O.Outside.goes g.O.Outside.loses) c.args.tree.now c.args.outside.now c.args.place (λ style. if_first style c.args.args.now) c.eval_value-2.new.tree c.eval_value-2.new.outside)
     (λ e h q style at.
-    let here = still_at _ _ c.args.place q style c.tests.invariant.keeps.steady at in
+    let here = still_at c.args.tree.now c.tests.tree c.args.place q style c.tests.invariant.here at in
     c.tests.invariant.leads q style at _ _ _ (at_prog (ap (λ (bs : List Branch). first_true style (tests_of bs) (option_copied c.in-Some.branches.last)) none)
     (Conditions.last_runs style _ c.in-Some-last.last.now (ap option_copied c.in-Some-last.is)
     (at_prog (ap script (sym c.in_ok-body-2.ensures.cases)) (h q style (record { names = here.names; style_is = here.style_is })))))) c.eval_value-2.ensures.runs
@@ -1146,7 +1124,7 @@ expressions::turn-returns-in_err-charge-clause-runs g t c =
     let p = err_from_is_err_and c.from_residual-in_err-charge.result c.from_residual-in_err-charge.ensures.1 in
     says_err c.from_residual-in_err-charge.result c.in_err-charge.field-0.0 p.0 _ _ _ p.1 p.2 c.in_err-charge.ensures.refused
     (λ e h q style at text is more.
-    holds q style at text is _ _ _ _ (charge_refused (h q (still_at _ _ c.args.place q style c.condition.ensures.keeps.steady at).names)))
+    holds q style at text is _ _ _ _ (charge_refused (h q (still_at _ _ c.args.place q style c.in_ok-condition.ensures.here at).names)))
 
 pub expressions::turn-returns-clause-runs : goal.expressions::turn-returns-clause-runs
 expressions::turn-returns-clause-runs g t c =
@@ -1156,13 +1134,13 @@ expressions::turn-returns-clause-runs g t c =
     (λ d on h goes.
     Conditions.turn_ends (ways g.O.Outside.goes g.O.Outside.loses) c.args.tree.now c.eval_value.new.tree c.args.outside.now c.eval_value.new.outside c.args.place c.args.test.now c.args.body.now d on
     (λ q style at text is k V y r run.
-    let here = still_at _ _ c.args.place q style c.condition.ensures.keeps.steady at in
-    let after = still_at _ _ c.args.place q style (level_steady _ _ c.charge.ensures.level) here in
+    let here = still_at _ _ c.args.place q style c.in_ok-condition.ensures.here at in
+    let after = still_at _ _ c.args.place q style (level_here _ _ c.args.place c.charge.ensures.level) here in
     let counts = c.in_ok-charge.ensures.counted q here.names in
     holds q style at text is _ V y r (charges counts (goes_on {i = Script c.args.body.now} (h q style (record { names = after.names; style_is = after.style_is })) run))) goes)
     (λ e h l q style at text is more.
-    let here = still_at _ _ c.args.place q style c.condition.ensures.keeps.steady at in
-    let after = still_at _ _ c.args.place q style (level_steady _ _ c.charge.ensures.level) here in
+    let here = still_at _ _ c.args.place q style c.in_ok-condition.ensures.here at in
+    let after = still_at _ _ c.args.place q style (level_here _ _ c.args.place c.charge.ensures.level) here in
     let counts = c.in_ok-charge.ensures.counted q here.names in
     holds q style at text is _ _ _ _ (charges counts (Conditions.leaves_after style after_body c.args.body.now more e l (h q style (record { names = after.names; style_is = after.style_is })))))
 
@@ -1199,6 +1177,7 @@ expressions::while_loop-turns-init g t c =
     record {
       leads = λ q style at V z r run. Looping.while_begins style c.args.args.now c.in-len2.len_at_least c.in-len2.len_below run;
       body = c.in_ok-body.ensures.cases ∙ Looping.item_at c.args.args.now 1 c.body-item.result (omega (arith, more)) c.body-item.is;
+      here = here-refl c.args.tree.now c.args.place;
       keeps = keeps-refl _ _;
     }
 
@@ -1210,7 +1189,7 @@ expressions::while_loop-returns-in_err-turn-clause-runs g t c =
     ran_err c.from_residual-in_err-turn.result c.in_err-turn.field-0.0 p.0 _ _ _ p.1 p.2 c.in_err-turn.ensures.runs
     (λ e h q style at. c.turns.invariant.leads q style at _ _ _
     (at_prog (ap (λ (body : List ℕ). turn_then style (get_or c.args.args.now 0 []) body (go (While (get_or c.args.args.now 0 []) (get_or c.args.args.now 1 [])) done)) (sym c.turns.invariant.body))
-    (h q style (still_at _ _ c.args.place q style c.turns.invariant.keeps.steady at) (get_or c.args.args.now 0 [])
+    (h q style (still_at c.args.tree.now c.turns.tree c.args.place q style c.turns.invariant.here at) (get_or c.args.args.now 0 [])
     (Conditions.kept_as_behind c.integers.result style c.test-item.result (get_or c.args.args.now 0 []) c.in_ok-test.test.value c.deref.result.now c.deref.ensures (c.integers.ensures ∙ at.style_is) test c.in_ok-test.ensures.read) _)))
 
 pub expressions::while_loop-returns-then-not-branch-clause-runs : goal.expressions::while_loop-returns-then-not-branch-clause-runs
@@ -1221,7 +1200,7 @@ expressions::while_loop-returns-then-not-branch-clause-runs g t c = λ q style a
     c.turns.invariant.leads q style at _ _ _
     (at_prog (ap (λ (body : List ℕ). turn_then style (get_or c.args.args.now 0 []) body (go (While (get_or c.args.args.now 0 []) (get_or c.args.args.now 1 [])) done)) (sym c.turns.invariant.body))
     (at_reply (ap (λ (x : List ℕ). Completed (ok x)) c.empty.ensures)
-    (over q style (still_at _ _ c.args.place q style c.turns.invariant.keeps.steady at) (get_or c.args.args.now 0 [])
+    (over q style (still_at c.args.tree.now c.turns.tree c.args.place q style c.turns.invariant.here at) (get_or c.args.args.now 0 [])
     (Conditions.kept_as_behind c.integers.result style c.test-item.result (get_or c.args.args.now 0 []) c.in_ok-test.test.value c.deref.result.now c.deref.ensures (c.integers.ensures ∙ at.style_is) test c.in_ok-test.ensures.read) _)))
 
 pub expressions::while_loop-turns-preserved : goal.expressions::while_loop-turns-preserved
@@ -1232,10 +1211,11 @@ expressions::while_loop-turns-preserved g t c =
     record {
       leads = λ q style at V z r run. c.turns.invariant.leads q style at _ _ _
           (at_prog (ap (λ (body : List ℕ). turn_then style (get_or c.args.args.now 0 []) body (go (While (get_or c.args.args.now 0 []) (get_or c.args.args.now 1 [])) done)) (sym c.turns.invariant.body))
-          (on q style (still_at _ _ c.args.place q style c.turns.invariant.keeps.steady at) (get_or c.args.args.now 0 [])
+          (on q style (still_at c.args.tree.now c.turns.tree c.args.place q style c.turns.invariant.here at) (get_or c.args.args.now 0 [])
           (Conditions.kept_as_behind c.integers.result style c.test-item.result (get_or c.args.args.now 0 []) c.in_ok-test.test.value c.deref.result.now c.deref.ensures (c.integers.ensures ∙ at.style_is) test c.in_ok-test.ensures.read) _ V z r
           (goes_done {i = While (get_or c.args.args.now 0 []) (get_or c.args.args.now 1 [])} run)));
       body = c.turn.ensures.same ∙ c.turns.invariant.body;
+      here = here-trans c.args.tree.now c.turns.tree c.turn.new.tree c.args.place c.turns.invariant.here c.in_ok-turn.ensures.here;
       keeps = keeps-trans c.turns.invariant.keeps c.turn.ensures.keeps;
     }
 
@@ -1280,7 +1260,7 @@ expressions::for_loop-returns-in_err-test-clause-runs g t c =
     c.in_ok-on_ok.ensures.text c.eval_value.ensures.runs in
     fails_err c.from_residual-in_err-test.result c.in_err-test.field-0.0 p.0 _ _ _ p.1 p.2 c.in_err-test.ensures.refused
     (λ e h q style at.
-    let here = still_at _ _ c.args.place q style c.eval_value.ensures.keeps.steady at in
+    let here = still_at c.args.tree.now c.eval_value.new.tree c.args.place q style (here_text c.eval_value.result c.in_ok-on_ok.field-0 c.args.tree.now c.eval_value.new.tree c.args.place c.in_ok-on_ok.ensures.text c.eval_value.ensures.here) at in
     Looping.for_begins style c.args.args.now x.0 c.in_ok-on_ok.field-0 c.in-len4.len_at_least c.in-len4.len_below x.2 x.3
     (at_prog (ap script (sym start)) (x.1 q style (record { names = at.names; style_is = at.style_is })))
     (Conditions.test_misread style (get_or c.args.args.now 1 []) _ e (Conditions.misread_as c.integers.result style c.test-item.result (get_or c.args.args.now 1 []) e (c.integers.ensures ∙ here.style_is) test h)))
@@ -1321,6 +1301,7 @@ expressions::for_loop-turns-init g t c =
           (at_prog (ap script (sym start)) (x.1 q style (record { names = at.names; style_is = at.style_is }))) run;
       next = c.in_ok-next.ensures.cases ∙ Looping.item_at c.args.args.now 2 c.next-item.result (omega (arith, more)) c.next-item.is;
       body = c.in_ok-body.ensures.cases ∙ Looping.item_at c.args.args.now 3 c.body-item.result (omega (arith, more)) c.body-item.is;
+      here = here_text c.eval_value.result c.in_ok-on_ok.field-0 c.args.tree.now c.eval_value.new.tree c.args.place c.in_ok-on_ok.ensures.text c.eval_value.ensures.here;
       keeps = c.eval_value.ensures.keeps;
     }
 
@@ -1331,10 +1312,10 @@ expressions::for_loop-returns-in_err-turn-clause-runs g t c =
     let test = Looping.item_at c.args.args.now 1 c.test-item.result (omega (arith, more)) c.test-item.is in
     ran_err c.from_residual-in_err-turn.result c.in_err-turn.field-0.0 p.0 _ _ _ p.1 p.2 c.in_err-turn.ensures.runs
     (λ e h q style at.
-    let first = still_at _ _ c.args.place q style c.eval_value.ensures.keeps.steady at in
+    let first = still_at c.args.tree.now c.eval_value.new.tree c.args.place q style (here_text c.eval_value.result c.in_ok-on_ok.field-0 c.args.tree.now c.eval_value.new.tree c.args.place c.in_ok-on_ok.ensures.text c.eval_value.ensures.here) at in
     c.turns.invariant.leads q style at _ _ _
     (at_prog (ap (λ (body : List ℕ). turn_then style (get_or c.args.args.now 1 []) body (next_then (get_or c.args.args.now 1 []) (get_or c.args.args.now 2 []) (get_or c.args.args.now 3 []))) (sym c.turns.invariant.body))
-    (h q style (still_at _ _ c.args.place q style c.turns.invariant.keeps.steady at) (get_or c.args.args.now 1 [])
+    (h q style (still_at c.args.tree.now c.turns.tree c.args.place q style c.turns.invariant.here at) (get_or c.args.args.now 1 [])
     (Conditions.kept_as_behind c.integers.result style c.test-item.result (get_or c.args.args.now 1 []) c.in_ok-test.test.value c.deref.result.now c.deref.ensures (c.integers.ensures ∙ first.style_is) test c.in_ok-test.ensures.read) _)))
 
 pub expressions::for_loop-returns-in_err-turn-clause-keeps : goal.expressions::for_loop-returns-in_err-turn-clause-keeps
@@ -1345,11 +1326,11 @@ expressions::for_loop-returns-then-not-branch-clause-runs g t c = λ q style at.
     let more = c.in-len4.len_at_least in
     let test = Looping.item_at c.args.args.now 1 c.test-item.result (omega (arith, more)) c.test-item.is in
     let over = subst (TurnGoes (ways g.O.Outside.goes g.O.Outside.loses) c.turns.tree c.turns.outside c.args.place c.deref.result.now c.turns.body c.turn.new.tree c.turn.new.outside) c.if-not-branch.true c.in_ok-turn.ensures.runs in
-    let first = still_at _ _ c.args.place q style c.eval_value.ensures.keeps.steady at in
+    let first = still_at c.args.tree.now c.eval_value.new.tree c.args.place q style (here_text c.eval_value.result c.in_ok-on_ok.field-0 c.args.tree.now c.eval_value.new.tree c.args.place c.in_ok-on_ok.ensures.text c.eval_value.ensures.here) at in
     c.turns.invariant.leads q style at _ _ _
     (at_prog (ap (λ (body : List ℕ). turn_then style (get_or c.args.args.now 1 []) body (next_then (get_or c.args.args.now 1 []) (get_or c.args.args.now 2 []) (get_or c.args.args.now 3 []))) (sym c.turns.invariant.body))
     (at_reply (ap (λ (x : List ℕ). Completed (ok x)) c.empty.ensures)
-    (over q style (still_at _ _ c.args.place q style c.turns.invariant.keeps.steady at) (get_or c.args.args.now 1 [])
+    (over q style (still_at c.args.tree.now c.turns.tree c.args.place q style c.turns.invariant.here at) (get_or c.args.args.now 1 [])
     (Conditions.kept_as_behind c.integers.result style c.test-item.result (get_or c.args.args.now 1 []) c.in_ok-test.test.value c.deref.result.now c.deref.ensures (c.integers.ensures ∙ first.style_is) test c.in_ok-test.ensures.read) _)))
 
 pub expressions::for_loop-returns-then-not-branch-clause-keeps : goal.expressions::for_loop-returns-then-not-branch-clause-keeps
@@ -1365,9 +1346,9 @@ expressions::for_loop-returns-in_err-turns_on-clause-runs g t c =
     (Conditions.turned_err after_next c.eval_value-in-turns.result c.in_err-turns_on.field-0.0
     (EndsAt (ways g.O.Outside.goes g.O.Outside.loses) c.turn.new.tree c.turn.new.outside c.args.place (λ style. script c.turns.next) c.eval_value-in-turns.new.tree c.eval_value-in-turns.new.outside) c.in_err-turns_on.ensures c.eval_value-in-turns.ensures.runs)
     (λ e h q style at.
-    let first = still_at _ _ c.args.place q style c.eval_value.ensures.keeps.steady at in
-    let here = still_at _ _ c.args.place q style c.turns.invariant.keeps.steady at in
-    let after = still_at _ _ c.args.place q style c.turn.ensures.keeps.steady here in
+    let first = still_at c.args.tree.now c.eval_value.new.tree c.args.place q style (here_text c.eval_value.result c.in_ok-on_ok.field-0 c.args.tree.now c.eval_value.new.tree c.args.place c.in_ok-on_ok.ensures.text c.eval_value.ensures.here) at in
+    let here = still_at c.args.tree.now c.turns.tree c.args.place q style c.turns.invariant.here at in
+    let after = still_at c.turns.tree c.turn.new.tree c.args.place q style c.in_ok-turn.ensures.here here in
     c.turns.invariant.leads q style at _ _ _
     (at_prog (ap (λ (body : List ℕ). turn_then style (get_or c.args.args.now 1 []) body (next_then (get_or c.args.args.now 1 []) (get_or c.args.args.now 2 []) (get_or c.args.args.now 3 []))) (sym c.turns.invariant.body))
     (on q style here (get_or c.args.args.now 1 [])
@@ -1384,9 +1365,9 @@ expressions::for_loop-returns-then-not-branch-2-clause-runs g t c = λ q style a
     let on = subst (TurnGoes (ways g.O.Outside.goes g.O.Outside.loses) c.turns.tree c.turns.outside c.args.place c.deref.result.now c.turns.body c.turn.new.tree c.turn.new.outside) c.if-not-branch.false c.in_ok-turn.ensures.runs in
     let x = Conditions.turned_ok after_next c.eval_value-in-turns.result c.in_ok-turns_on.field-0 false
     (EndsAt (ways g.O.Outside.goes g.O.Outside.loses) c.turn.new.tree c.turn.new.outside c.args.place (λ style. script c.turns.next) c.eval_value-in-turns.new.tree c.eval_value-in-turns.new.outside) c.in_ok-turns_on.ensures c.if-not-branch-2.true c.eval_value-in-turns.ensures.runs in
-    let first = still_at _ _ c.args.place q style c.eval_value.ensures.keeps.steady at in
-    let here = still_at _ _ c.args.place q style c.turns.invariant.keeps.steady at in
-    let after = still_at _ _ c.args.place q style c.turn.ensures.keeps.steady here in
+    let first = still_at c.args.tree.now c.eval_value.new.tree c.args.place q style (here_text c.eval_value.result c.in_ok-on_ok.field-0 c.args.tree.now c.eval_value.new.tree c.args.place c.in_ok-on_ok.ensures.text c.eval_value.ensures.here) at in
+    let here = still_at c.args.tree.now c.turns.tree c.args.place q style c.turns.invariant.here at in
+    let after = still_at c.turns.tree c.turn.new.tree c.args.place q style c.in_ok-turn.ensures.here here in
     c.turns.invariant.leads q style at _ _ _
     (at_prog (ap (λ (body : List ℕ). turn_then style (get_or c.args.args.now 1 []) body (next_then (get_or c.args.args.now 1 []) (get_or c.args.args.now 2 []) (get_or c.args.args.now 3 []))) (sym c.turns.invariant.body))
     (on q style here (get_or c.args.args.now 1 [])
@@ -1406,9 +1387,9 @@ expressions::for_loop-turns-preserved g t c =
     (EndsAt (ways g.O.Outside.goes g.O.Outside.loses) c.turn.new.tree c.turn.new.outside c.args.place (λ style. script c.turns.next) c.eval_value-in-turns.new.tree c.eval_value-in-turns.new.outside) c.in_ok-turns_on.ensures c.if-not-branch-2.false c.eval_value-in-turns.ensures.runs in
     record {
       leads = λ q style at V z r run.
-          let first = still_at _ _ c.args.place q style c.eval_value.ensures.keeps.steady at in
-          let here = still_at _ _ c.args.place q style c.turns.invariant.keeps.steady at in
-          let after = still_at _ _ c.args.place q style c.turn.ensures.keeps.steady here in
+          let first = still_at c.args.tree.now c.eval_value.new.tree c.args.place q style (here_text c.eval_value.result c.in_ok-on_ok.field-0 c.args.tree.now c.eval_value.new.tree c.args.place c.in_ok-on_ok.ensures.text c.eval_value.ensures.here) at in
+          let here = still_at c.args.tree.now c.turns.tree c.args.place q style c.turns.invariant.here at in
+          let after = still_at c.turns.tree c.turn.new.tree c.args.place q style c.in_ok-turn.ensures.here here in
           c.turns.invariant.leads q style at _ _ _
           (at_prog (ap (λ (body : List ℕ). turn_then style (get_or c.args.args.now 1 []) body (next_then (get_or c.args.args.now 1 []) (get_or c.args.args.now 2 []) (get_or c.args.args.now 3 []))) (sym c.turns.invariant.body))
           (on q style here (get_or c.args.args.now 1 [])
@@ -1418,6 +1399,7 @@ expressions::for_loop-turns-preserved g t c =
           (goes_done {i = For (get_or c.args.args.now 1 []) (get_or c.args.args.now 2 []) (get_or c.args.args.now 3 [])} run)))));
       next = c.eval_value-in-turns.ensures.same ∙ c.turns.invariant.next;
       body = c.turn.ensures.same ∙ c.turns.invariant.body;
+      here = here-trans c.args.tree.now c.turn.new.tree c.eval_value-in-turns.new.tree c.args.place (here-trans c.args.tree.now c.turns.tree c.turn.new.tree c.args.place c.turns.invariant.here c.in_ok-turn.ensures.here) (here_in c.eval_value-in-turns.result c.in_ok-turns_on.ensures.0 (IsHere c.turn.new.tree c.eval_value-in-turns.new.tree c.args.place) c.in_ok-turns_on.ensures.1 c.eval_value-in-turns.ensures.here);
       keeps = keeps-trans (keeps-trans c.turns.invariant.keeps c.turn.ensures.keeps) c.eval_value-in-turns.ensures.keeps;
     }
 
@@ -1436,6 +1418,7 @@ pub loops::walk_through-turns-init : goal.loops::walk_through-turns-init
 loops::walk_through-turns-init g t c = record {
   leads = λ q style at V z r run. run;
   script = c.in_ok-script.ensures.cases;
+  here = here-refl c.args.tree.now c.args.place;
   keeps = keeps-refl _ _;
 }
 
@@ -1451,7 +1434,7 @@ loops::walk_through-returns-in_err-charge-clause-runs g t c =
     let p = err_from_is_err_and c.from_residual-in_err-charge.result c.from_residual-in_err-charge.ensures.1 in
     says_err c.from_residual-in_err-charge.result c.in_err-charge.field-0.0 p.0 _ _ _ p.1 p.2 c.in_err-charge.ensures.refused
     (λ e h q style at. c.turns.invariant.leads q style at _ _ _
-    (Walking.turn_stops style (walks_at c.turns.turns c.args.walks.now) (done (ok [])) (body_then c.args.body.now) more (h q (still_at _ _ c.args.place q style c.turns.invariant.keeps.steady at).names)))
+    (Walking.turn_stops style (walks_at c.turns.turns c.args.walks.now) (done (ok [])) (body_then c.args.body.now) more (h q (still_at c.args.tree.now c.turns.tree c.args.place q style c.turns.invariant.here at).names)))
 
 pub loops::walk_through-returns-in_err-set_walks-clause-runs : goal.loops::walk_through-returns-in_err-set_walks-clause-runs
 loops::walk_through-returns-in_err-set_walks-clause-runs g t c =
@@ -1459,13 +1442,13 @@ loops::walk_through-returns-in_err-set_walks-clause-runs g t c =
     let p = err_from_is_err_and c.from_residual-in_err-set_walks.result c.from_residual-in_err-set_walks.ensures.1 in
     fails_err c.from_residual-in_err-set_walks.result c.in_err-set_walks.field-0.0 p.0 _ _ _ p.1 p.2 c.in_err-set_walks.ensures.set
     (λ e h q style at.
-    let here = still_at _ _ c.args.place q style c.turns.invariant.keeps.steady at in
-    let after = still_at _ _ c.args.place q style (level_steady _ _ c.charge.ensures.level) here in
+    let here = still_at c.args.tree.now c.turns.tree c.args.place q style c.turns.invariant.here at in
+    let after = still_at _ _ c.args.place q style (level_here _ _ c.args.place c.charge.ensures.level) here in
     let counts = c.in_ok-charge.ensures.counted q here.names in
     c.turns.invariant.leads q style at _ _ _
     (Walking.turn_fails style (walks_at c.turns.turns c.args.walks.now) (done (ok [])) (body_then c.args.body.now) more counts (λ k. h q after.names k)))
     (λ q style at.
-    let here = still_at _ _ c.args.place q style c.turns.invariant.keeps.steady at in
+    let here = still_at c.args.tree.now c.turns.tree c.args.place q style c.turns.invariant.here at in
     let counts = c.in_ok-charge.ensures.counted q here.names in
     c.turns.invariant.leads q style at _ _ _ (Walking.turn_given_up style (walks_at c.turns.turns c.args.walks.now) (done (ok [])) (body_then c.args.body.now) more counts))
 
@@ -1477,9 +1460,9 @@ loops::walk_through-returns-in_err-goes_on-clause-runs g t c =
     (Conditions.turned_err after_body c.eval_value.result c.in_err-goes_on.field-0.0
     (EndsAt (ways g.O.Outside.goes g.O.Outside.loses) c.set_walks.new.tree c.charge.new.outside c.args.place (λ style. script c.turns.script) c.eval_value.new.tree c.eval_value.new.outside) c.in_err-goes_on.ensures c.eval_value.ensures.runs)
     (λ e h q style at.
-    let here = still_at _ _ c.args.place q style c.turns.invariant.keeps.steady at in
-    let after = still_at _ _ c.args.place q style (level_steady _ _ c.charge.ensures.level) here in
-    let set = still_at _ _ c.args.place q style (level_steady _ _ c.set_walks.ensures.level) after in
+    let here = still_at c.args.tree.now c.turns.tree c.args.place q style c.turns.invariant.here at in
+    let after = still_at _ _ c.args.place q style (level_here _ _ c.args.place c.charge.ensures.level) here in
+    let set = still_at _ _ c.args.place q style (level_here _ _ c.args.place c.set_walks.ensures.level) after in
     let counts = c.in_ok-charge.ensures.counted q here.names in
     c.turns.invariant.leads q style at _ _ _
     (Walking.turn_begins style (walks_at c.turns.turns c.args.walks.now) (done (ok [])) (body_then c.args.body.now) more counts
@@ -1491,9 +1474,9 @@ loops::walk_through-returns-then-not-branch-clause-runs g t c = λ q style at.
     let more = sym c.is_over.ensures ∙ c.if-is_over.false in
     let x = Conditions.turned_ok after_body c.eval_value.result c.in_ok-goes_on.field-0 false
     (EndsAt (ways g.O.Outside.goes g.O.Outside.loses) c.set_walks.new.tree c.charge.new.outside c.args.place (λ style. script c.turns.script) c.eval_value.new.tree c.eval_value.new.outside) c.in_ok-goes_on.ensures c.if-not-branch.true c.eval_value.ensures.runs in
-    let here = still_at _ _ c.args.place q style c.turns.invariant.keeps.steady at in
-    let after = still_at _ _ c.args.place q style (level_steady _ _ c.charge.ensures.level) here in
-    let set = still_at _ _ c.args.place q style (level_steady _ _ c.set_walks.ensures.level) after in
+    let here = still_at c.args.tree.now c.turns.tree c.args.place q style c.turns.invariant.here at in
+    let after = still_at _ _ c.args.place q style (level_here _ _ c.args.place c.charge.ensures.level) here in
+    let set = still_at _ _ c.args.place q style (level_here _ _ c.args.place c.set_walks.ensures.level) after in
     let counts = c.in_ok-charge.ensures.counted q here.names in
     c.turns.invariant.leads q style at _ _ _
     (Walking.turn_begins style (walks_at c.turns.turns c.args.walks.now) (done (ok [])) (body_then c.args.body.now) more counts
@@ -1508,9 +1491,9 @@ loops::walk_through-turns-preserved g t c =
     (EndsAt (ways g.O.Outside.goes g.O.Outside.loses) c.set_walks.new.tree c.charge.new.outside c.args.place (λ style. script c.turns.script) c.eval_value.new.tree c.eval_value.new.outside) c.in_ok-goes_on.ensures c.if-not-branch.false c.eval_value.ensures.runs in
     record {
       leads = λ q style at V z r run.
-          let here = still_at _ _ c.args.place q style c.turns.invariant.keeps.steady at in
-          let after = still_at _ _ c.args.place q style (level_steady _ _ c.charge.ensures.level) here in
-          let set = still_at _ _ c.args.place q style (level_steady _ _ c.set_walks.ensures.level) after in
+          let here = still_at c.args.tree.now c.turns.tree c.args.place q style c.turns.invariant.here at in
+          let after = still_at _ _ c.args.place q style (level_here _ _ c.args.place c.charge.ensures.level) here in
+          let set = still_at _ _ c.args.place q style (level_here _ _ c.args.place c.set_walks.ensures.level) after in
           let counts = c.in_ok-charge.ensures.counted q here.names in
           c.turns.invariant.leads q style at _ _ _
           (Walking.turn_begins style (walks_at c.turns.turns c.args.walks.now) (done (ok [])) (body_then c.args.body.now) more counts
@@ -1520,6 +1503,7 @@ loops::walk_through-turns-preserved g t c =
           (goes_done {i = Foreach (map passed (walks_at c.turns.turns c.args.walks.now)) c.args.body.now}
           (at_prog (ap (λ (ws : List Left). foreach_turns ws c.args.body.now) (Walking.walks_next c.turns.turns c.args.walks.now)) run)))));
       script = c.eval_value.ensures.same ∙ c.turns.invariant.script;
+      here = here-trans c.args.tree.now c.set_walks.new.tree c.eval_value.new.tree c.args.place (here-trans c.args.tree.now c.charge.new.tree c.set_walks.new.tree c.args.place (here-trans c.args.tree.now c.turns.tree c.charge.new.tree c.args.place c.turns.invariant.here (level_here c.turns.tree c.charge.new.tree c.args.place c.charge.ensures.level)) (level_here c.charge.new.tree c.set_walks.new.tree c.args.place c.set_walks.ensures.level)) (here_in c.eval_value.result c.in_ok-goes_on.ensures.0 (IsHere c.set_walks.new.tree c.eval_value.new.tree c.args.place) c.in_ok-goes_on.ensures.1 c.eval_value.ensures.here);
       keeps = keeps-trans (keeps-trans (keeps-trans c.turns.invariant.keeps (charged_keeps c.charge.ensures.level c.charge.ensures.left)) (level_keeps _ c.set_walks.ensures.level)) c.eval_value.ensures.keeps;
     }
 
@@ -1566,6 +1550,7 @@ pub loops::dict-returns-in-None : goal.loops::dict-returns-in-None
 loops::dict-returns-in-None g t c = record {
   runs = proceeds_as (ways g.O.Outside.goes g.O.Outside.loses) c.args.tree.now c.dict.new.tree c.args.outside.now c.args.outside.now c.args.place (λ style. whole_dict style c.args.args.now) (λ style. plain_dict style c.args.args.now) c.dict.result (λ style. c.in-None.ensures style)
       (acts_proceeds (ways g.O.Outside.goes g.O.Outside.loses) c.args.tree.now c.dict.new.tree c.args.outside.now c.args.place (λ style. plain_dict style c.args.args.now) c.dict.result c.dict.ensures.acts);
+  here = on_completion c.dict.result (IsHere c.args.tree.now c.dict.new.tree c.args.place) (level_here c.args.tree.now c.dict.new.tree c.args.place c.dict.ensures.level);
   keeps = level_keeps _ c.dict.ensures.level;
 }
 
@@ -1594,6 +1579,7 @@ collecting::lmap-turns-init g t c = record {
   leads = λ q style at V z r run. Walking.lmap_begins style c.args.args.now c.in-Some.words.now c.in-Some.body.now c.in_ok-walks.walks.items c.in-Some.ensures c.in_ok-walks.ensures.read
       (at_prog ((λ i. lmap_turns (walks_at 0 c.in_ok-walks.walks.items) (sym c.in_ok-body.ensures.cases i) (sym c.in_ok-made.ensures i))) run);
   body = refl;
+  here = here-refl c.args.tree.now c.args.place;
   keeps = keeps-refl _ _;
 }
 
@@ -1611,7 +1597,7 @@ collecting::lmap-returns-in_err-charge-clause-runs g t c =
     let p = err_from_is_err_and c.from_residual-in_err-charge.result c.from_residual-in_err-charge.ensures.1 in
     says_err c.from_residual-in_err-charge.result c.in_err-charge.field-0.0 p.0 _ _ _ p.1 p.2 c.in_err-charge.ensures.refused
     (λ e h q style at. c.turns.invariant.leads q style at _ _ _
-    (Walking.turn_stops style (walks_at c.turns.turns c.in_ok-walks.walks.items) (gives (written_list c.turns.made)) (result_then c.in_ok-body.body c.turns.made) more (h q (still_at _ _ c.args.place q style c.turns.invariant.keeps.steady at).names)))
+    (Walking.turn_stops style (walks_at c.turns.turns c.in_ok-walks.walks.items) (gives (written_list c.turns.made)) (result_then c.in_ok-body.body c.turns.made) more (h q (still_at c.args.tree.now c.turns.tree c.args.place q style c.turns.invariant.here at).names)))
 
 pub collecting::lmap-returns-in_err-set_walks-clause-runs : goal.collecting::lmap-returns-in_err-set_walks-clause-runs
 collecting::lmap-returns-in_err-set_walks-clause-runs g t c =
@@ -1619,14 +1605,14 @@ collecting::lmap-returns-in_err-set_walks-clause-runs g t c =
     let p = err_from_is_err_and c.from_residual-in_err-set_walks.result c.from_residual-in_err-set_walks.ensures.1 in
     fails_err c.from_residual-in_err-set_walks.result c.in_err-set_walks.field-0.0 p.0 _ _ _ p.1 p.2 c.in_err-set_walks.ensures.set
     (λ e h q style at.
-    let here = still_at _ _ c.args.place q style c.turns.invariant.keeps.steady at in
-    let after = still_at _ _ c.args.place q style (level_steady _ _ c.charge.ensures.level) here in
+    let here = still_at c.args.tree.now c.turns.tree c.args.place q style c.turns.invariant.here at in
+    let after = still_at _ _ c.args.place q style (level_here _ _ c.args.place c.charge.ensures.level) here in
     let counts = c.in_ok-charge.ensures.counted q here.names in
     c.turns.invariant.leads q style at _ _ _
     (Walking.turn_fails style (walks_at c.turns.turns c.in_ok-walks.walks.items) (gives (written_list c.turns.made)) (result_then c.in_ok-body.body c.turns.made) more counts
     (λ k. subst (λ (ws : List Walk). Does (sets_walks (walks_at c.turns.turns ws) (λ rest. k)) (tree_of c.charge.new.tree) q (tree_of c.set_walks.new.tree) e) c.as_slice-in-turns.ensures.value (h q after.names k))))
     (λ q style at.
-    let here = still_at _ _ c.args.place q style c.turns.invariant.keeps.steady at in
+    let here = still_at c.args.tree.now c.turns.tree c.args.place q style c.turns.invariant.here at in
     let counts = c.in_ok-charge.ensures.counted q here.names in
     c.turns.invariant.leads q style at _ _ _ (Walking.turn_given_up style (walks_at c.turns.turns c.in_ok-walks.walks.items) (gives (written_list c.turns.made)) (result_then c.in_ok-body.body c.turns.made) more counts))
 
@@ -1638,9 +1624,9 @@ collecting::lmap-returns-in_err-collects-clause-runs g t c =
     (Gathering.collected_err c.eval_value-ended.result c.in_err-collects.field-0.0 c.turns.made c.collects.new.made
     (EndsAt (ways g.O.Outside.goes g.O.Outside.loses) c.set_walks.new.tree c.charge.new.outside c.args.place (λ style. script c.turns.body) c.eval_value-ended.new.tree c.eval_value-ended.new.outside) c.in_err-collects.ensures c.eval_value-ended.ensures.runs)
     (λ e h q style at.
-    let here = still_at _ _ c.args.place q style c.turns.invariant.keeps.steady at in
-    let after = still_at _ _ c.args.place q style (level_steady _ _ c.charge.ensures.level) here in
-    let set = still_at _ _ c.args.place q style (level_steady _ _ c.set_walks.ensures.level) after in
+    let here = still_at c.args.tree.now c.turns.tree c.args.place q style c.turns.invariant.here at in
+    let after = still_at _ _ c.args.place q style (level_here _ _ c.args.place c.charge.ensures.level) here in
+    let set = still_at _ _ c.args.place q style (level_here _ _ c.args.place c.set_walks.ensures.level) after in
     let counts = c.in_ok-charge.ensures.counted q here.names in
     c.turns.invariant.leads q style at _ _ _
     (Walking.turn_begins style (walks_at c.turns.turns c.in_ok-walks.walks.items) (gives (written_list c.turns.made)) (result_then c.in_ok-body.body c.turns.made) more counts
@@ -1657,9 +1643,9 @@ collecting::lmap-returns-then-not-branch-clause-runs g t c =
     ran c.collected-then-not-branch.result (EndsBy (gives (written_list c.collects.new.made)))
     (EndsFrom (ways g.O.Outside.goes g.O.Outside.loses) c.args.tree.now c.args.outside.now c.args.place (λ style. lmap c.args.args.now) c.eval_value-ended.new.tree c.eval_value-ended.new.outside)
     (λ e h q style at.
-    let here = still_at _ _ c.args.place q style c.turns.invariant.keeps.steady at in
-    let after = still_at _ _ c.args.place q style (level_steady _ _ c.charge.ensures.level) here in
-    let set = still_at _ _ c.args.place q style (level_steady _ _ c.set_walks.ensures.level) after in
+    let here = still_at c.args.tree.now c.turns.tree c.args.place q style c.turns.invariant.here at in
+    let after = still_at _ _ c.args.place q style (level_here _ _ c.args.place c.charge.ensures.level) here in
+    let set = still_at _ _ c.args.place q style (level_here _ _ c.args.place c.set_walks.ensures.level) after in
     let counts = c.in_ok-charge.ensures.counted q here.names in
     c.turns.invariant.leads q style at _ _ _
     (Walking.turn_begins style (walks_at c.turns.turns c.in_ok-walks.walks.items) (gives (written_list c.turns.made)) (result_then c.in_ok-body.body c.turns.made) more counts
@@ -1669,9 +1655,9 @@ collecting::lmap-returns-then-not-branch-clause-runs g t c =
     (at_prog (x.2 (λ made. go (Lmap (map passed (walks_at c.turns.turns c.in_ok-walks.walks.items)) c.in_ok-body.body made) done))
     (Conditions.ends_by style (gives (written_list c.collects.new.made)) e h)))))
     (λ q style at.
-    let here = still_at _ _ c.args.place q style c.turns.invariant.keeps.steady at in
-    let after = still_at _ _ c.args.place q style (level_steady _ _ c.charge.ensures.level) here in
-    let set = still_at _ _ c.args.place q style (level_steady _ _ c.set_walks.ensures.level) after in
+    let here = still_at c.args.tree.now c.turns.tree c.args.place q style c.turns.invariant.here at in
+    let after = still_at _ _ c.args.place q style (level_here _ _ c.args.place c.charge.ensures.level) here in
+    let set = still_at _ _ c.args.place q style (level_here _ _ c.args.place c.set_walks.ensures.level) after in
     let counts = c.in_ok-charge.ensures.counted q here.names in
     c.turns.invariant.leads q style at _ _ _
     (Walking.turn_begins style (walks_at c.turns.turns c.in_ok-walks.walks.items) (gives (written_list c.turns.made)) (result_then c.in_ok-body.body c.turns.made) more counts
@@ -1687,9 +1673,9 @@ collecting::lmap-turns-preserved g t c =
     (EndsAt (ways g.O.Outside.goes g.O.Outside.loses) c.set_walks.new.tree c.charge.new.outside c.args.place (λ style. script c.turns.body) c.eval_value-ended.new.tree c.eval_value-ended.new.outside) c.in_ok-collects.ensures c.if-not-branch.false c.eval_value-ended.ensures.runs in
     record {
       leads = λ q style at V z r run.
-          let here = still_at _ _ c.args.place q style c.turns.invariant.keeps.steady at in
-          let after = still_at _ _ c.args.place q style (level_steady _ _ c.charge.ensures.level) here in
-          let set = still_at _ _ c.args.place q style (level_steady _ _ c.set_walks.ensures.level) after in
+          let here = still_at c.args.tree.now c.turns.tree c.args.place q style c.turns.invariant.here at in
+          let after = still_at _ _ c.args.place q style (level_here _ _ c.args.place c.charge.ensures.level) here in
+          let set = still_at _ _ c.args.place q style (level_here _ _ c.args.place c.set_walks.ensures.level) after in
           let counts = c.in_ok-charge.ensures.counted q here.names in
           c.turns.invariant.leads q style at _ _ _
           (Walking.turn_begins style (walks_at c.turns.turns c.in_ok-walks.walks.items) (gives (written_list c.turns.made)) (result_then c.in_ok-body.body c.turns.made) more counts
@@ -1700,6 +1686,7 @@ collecting::lmap-turns-preserved g t c =
           (goes_done {i = Lmap (map passed (walks_at c.turns.turns c.in_ok-walks.walks.items)) c.in_ok-body.body c.collects.new.made}
           (at_prog (ap (λ (ws : List Left). lmap_turns ws c.in_ok-body.body c.collects.new.made) (Walking.walks_next c.turns.turns c.in_ok-walks.walks.items)) run)))));
       body = c.eval_value-ended.ensures.same ∙ c.turns.invariant.body;
+      here = here-trans c.args.tree.now c.set_walks.new.tree c.eval_value-ended.new.tree c.args.place (here-trans c.args.tree.now c.charge.new.tree c.set_walks.new.tree c.args.place (here-trans c.args.tree.now c.turns.tree c.charge.new.tree c.args.place c.turns.invariant.here (level_here c.turns.tree c.charge.new.tree c.args.place c.charge.ensures.level)) (level_here c.charge.new.tree c.set_walks.new.tree c.args.place c.set_walks.ensures.level)) (here_in c.eval_value-ended.result c.in_ok-collects.ensures.0 (IsHere c.set_walks.new.tree c.eval_value-ended.new.tree c.args.place) c.in_ok-collects.ensures.1 c.eval_value-ended.ensures.here);
       keeps = keeps-trans (keeps-trans (keeps-trans c.turns.invariant.keeps (charged_keeps c.charge.ensures.level c.charge.ensures.left)) (level_keeps _ c.set_walks.ensures.level)) c.eval_value-ended.ensures.keeps;
     }
 
@@ -1737,18 +1724,16 @@ loops::uplevel-returns-clause-runs g t c =
     (EndsFrom (ways g.O.Outside.goes g.O.Outside.loses) c.args.tree.now c.args.outside.now c.args.place (λ style. uplevel style c.args.args.now) c.bring_back.new.tree c.eval_value-ended.new.outside)
     (λ e h q style at.
     let n = stands (tree_of c.args.tree.now q) (tree_there c.args.tree.now q _ at.names) in
-    let here = still_at c.args.tree.now c.set_aside.new.tree c.args.place q style (level_steady _ _ c.in_ok-set_aside.ensures.level) at in
-    let after = still_at c.set_aside.new.tree c.eval_value-ended.new.tree c.args.place q style c.eval_value-ended.ensures.keeps.steady here in
-    let m = stands (tree_of c.eval_value-ended.new.tree q) (tree_there c.eval_value-ended.new.tree q _ after.names) in
+    let here = still_at c.args.tree.now c.set_aside.new.tree c.args.place q style (level_here _ _ c.args.place c.in_ok-set_aside.ensures.level) at in
     Levelling.up_found style c.args.args.now c.in_ok-level.words.now c.in_ok-level.level n.1
     (ap (λ (s : Integers). script_level s n.0 c.args.args.now) (sym at.style_is) ∙ c.in_ok-level.ensures q n.0 at.names n.1)
-    (Levelling.up_runs style c.in_ok-level.words.now c.in_ok-level.level c.in_ok-script.ensures.whole.1 n.1 (c.in_ok-set_aside.ensures.aside q n.0 at.names n.1) m.1 (c.bring_back.ensures.back q m.0 after.names m.1)
+    (Levelling.up_runs style c.in_ok-level.words.now c.in_ok-level.level c.in_ok-script.ensures.whole.1 n.1 (c.in_ok-set_aside.ensures.aside q n.0 at.names n.1) (c.bring_back.ensures.back q n.0.depth (subst (λ (d : ℕ). Holds c.eval_value-ended.new.tree c.args.place q d) (ap depth_of n.1) (steady_holds c.args.tree.now c.eval_value-ended.new.tree c.args.place q (steady-trans c.args.tree.now c.set_aside.new.tree c.eval_value-ended.new.tree (level_steady c.args.tree.now c.set_aside.new.tree c.set_aside.ensures.level) c.eval_value-ended.ensures.keeps.steady) at.names at.running)))
     (at_prog (ap script (sym c.in_ok-script.ensures.whole.0)) (h q style (record { names = here.names; style_is = here.style_is }))))) c.eval_value-ended.ensures.runs
 
 -- what stays as it is, in conditions and loops
 
 pub expressions::if_first-condition-requires : goal.expressions::if_first-condition-requires
-expressions::if_first-condition-requires g t c κs within = (search rules, (search rules, still_running _ _ c.args.place c.tests.invariant.keeps.steady c.requires))
+expressions::if_first-condition-requires g t c κs within = (search rules, (search rules, still_running c.args.tree.now c.tests.tree c.args.place c.tests.invariant.here c.requires))
 
 pub expressions::if_first-returns-in_err-condition-clause-keeps : goal.expressions::if_first-returns-in_err-condition-clause-keeps
 expressions::if_first-returns-in_err-condition-clause-keeps g t c = keeps-trans c.tests.invariant.keeps c.condition.ensures.keeps
@@ -1757,7 +1742,7 @@ pub expressions::if_first-returns-in_err-body-clause-keeps : goal.expressions::i
 expressions::if_first-returns-in_err-body-clause-keeps g t c = keeps-trans c.tests.invariant.keeps c.condition.ensures.keeps
 
 pub expressions::if_first-eval_value-requires : goal.expressions::if_first-eval_value-requires
-expressions::if_first-eval_value-requires g t c κs within = (search rules, (search rules, let r = still_running _ _ c.args.place (steady-trans _ _ _ c.tests.invariant.keeps.steady c.condition.ensures.keeps.steady) c.requires in (r.0, r.1)))
+expressions::if_first-eval_value-requires g t c κs within = (search rules, (search rules, let r = still_running c.args.tree.now c.condition.new.tree c.args.place (here-trans c.args.tree.now c.tests.tree c.condition.new.tree c.args.place c.tests.invariant.here c.in_ok-condition.ensures.here) c.requires in (r.0, r.1)))
 
 pub expressions::if_first-returns-then-branch-clause-keeps : goal.expressions::if_first-returns-then-branch-clause-keeps
 expressions::if_first-returns-then-branch-clause-keeps g t c = keeps-trans c.tests.invariant.keeps (keeps-trans c.condition.ensures.keeps c.eval_value.ensures.keeps)
@@ -1772,10 +1757,10 @@ pub expressions::while_loop-returns-then-not-branch-clause-keeps : goal.expressi
 expressions::while_loop-returns-then-not-branch-clause-keeps g t c = keeps-trans c.turns.invariant.keeps c.turn.ensures.keeps
 
 pub expressions::for_loop-turn-requires : goal.expressions::for_loop-turn-requires
-expressions::for_loop-turn-requires g t c κs within = (search rules, (search rules, still_running _ _ c.args.place c.turns.invariant.keeps.steady c.requires))
+expressions::for_loop-turn-requires g t c κs within = (search rules, (search rules, still_running c.args.tree.now c.turns.tree c.args.place c.turns.invariant.here c.requires))
 
 pub expressions::for_loop-eval_value-requires-in-turns : goal.expressions::for_loop-eval_value-requires-in-turns
-expressions::for_loop-eval_value-requires-in-turns g t c κs within = (search rules, (search rules, let r = still_running _ _ c.args.place (steady-trans _ _ _ c.turns.invariant.keeps.steady c.turn.ensures.keeps.steady) c.requires in (r.0, r.1)))
+expressions::for_loop-eval_value-requires-in-turns g t c κs within = (search rules, (search rules, let r = still_running c.args.tree.now c.turn.new.tree c.args.place (here-trans c.args.tree.now c.turns.tree c.turn.new.tree c.args.place c.turns.invariant.here c.in_ok-turn.ensures.here) c.requires in (r.0, r.1)))
 
 pub loops::walk_through-returns-in_err-goes_on-clause-keeps : goal.loops::walk_through-returns-in_err-goes_on-clause-keeps
 loops::walk_through-returns-in_err-goes_on-clause-keeps g t c = keeps-trans c.turns.invariant.keeps (keeps-trans (charged_keeps c.charge.ensures.level c.charge.ensures.left) (keeps-trans (level_keeps _ c.set_walks.ensures.level) c.eval_value.ensures.keeps))
@@ -1934,6 +1919,7 @@ commands::call_builtin-returns-in-Rename-clause-runs g t c =
 pub commands::call_builtin-returns-in_default : goal.commands::call_builtin-returns-in_default
 commands::call_builtin-returns-in_default g t c = record {
   runs = acts_proceeds (ways g.O.Outside.goes g.O.Outside.loses) c.args.tree.now c.call_plain.new.tree c.args.outside.now c.args.place (λ style. builtin_program style c.args.builtin c.args.args.now) c.call_plain.result c.call_plain.ensures.acts;
+  here = on_completion c.call_plain.result (IsHere c.args.tree.now c.call_plain.new.tree c.args.place) (level_here c.args.tree.now c.call_plain.new.tree c.args.place c.call_plain.ensures.level);
   keeps = level_keeps _ c.call_plain.ensures.level;
 }
 
@@ -2002,7 +1988,7 @@ trying::handle-returns-in_err-keep_named-clause-runs g t c =
 
 pub trying::handle-run_handler-requires : goal.trying::handle-run_handler-requires
 trying::handle-run_handler-requires g t c κs within =
-    (search rules, (search rules, still_running _ _ c.args.place (level_steady _ _ c.keep_named.ensures.level) c.requires))
+    (search rules, (search rules, still_running c.args.tree.now c.keep_named.new.tree c.args.place (level_here _ _ c.args.place c.keep_named.ensures.level) c.requires))
 
 pub trying::handle-returns-clause-runs : goal.trying::handle-returns-clause-runs
 trying::handle-returns-clause-runs g t c =
@@ -2011,7 +1997,7 @@ trying::handle-returns-clause-runs g t c =
     (EndsFrom (ways g.O.Outside.goes g.O.Outside.loses) c.keep_named.new.tree c.args.outside.now c.args.place (λ style. runs_last (option_copied c.in-Some.script)) c.run_handler.new.tree c.run_handler.new.outside)
     (EndsFrom (ways g.O.Outside.goes g.O.Outside.loses) c.args.tree.now c.args.outside.now c.args.place (λ style. handled_by (completion_of c.args.completion) (handlers_of c.args.handlers.now)) c.run_handler.new.tree c.run_handler.new.outside)
     (λ e h q style at. at_prog some (Choosing.named_comes style c.in-Some.names.now (completion_of c.args.completion) (runs_last (option_copied c.in-Some.script)) (c.in_ok-keep_named.ensures.kept q at.names)
-    (h q style (still_at _ _ c.args.place q style (level_steady _ _ c.keep_named.ensures.level) at)))) c.run_handler.ensures.runs
+    (h q style (still_at _ _ c.args.place q style (level_here _ _ c.args.place c.keep_named.ensures.level) at)))) c.run_handler.ensures.runs
 
 pub trying::handle-returns-clause-keeps : goal.trying::handle-returns-clause-keeps
 trying::handle-returns-clause-keeps g t c =
@@ -2034,7 +2020,7 @@ trying::handled-returns-in_err-completion-clause-runs g t c =
 
 pub trying::handled-handle-requires : goal.trying::handled-handle-requires
 trying::handled-handle-requires g t c κs within =
-    (search rules, (search rules, still_running _ _ c.args.place c.eval_value.ensures.keeps.steady c.requires))
+    (search rules, (search rules, still_running c.args.tree.now c.eval_value.new.tree c.args.place (here_caught c.eval_value.result c.caught.result c.in_ok-completion.completion c.args.tree.now c.eval_value.new.tree c.args.place c.in_ok-completion.was c.caught.ensures c.eval_value.ensures.here) c.requires))
 
 pub trying::handled-returns-clause-runs : goal.trying::handled-returns-clause-runs
 trying::handled-returns-clause-runs g t c =
@@ -2044,7 +2030,7 @@ trying::handled-returns-clause-runs g t c =
     (EndsFrom (ways g.O.Outside.goes g.O.Outside.loses) c.eval_value.new.tree c.eval_value.new.outside c.args.place (λ style. handled_by (completion_of c.in_ok-completion.completion) (handlers_of c.args.handlers.now)) c.handle.new.tree c.handle.new.outside)
     (EndsFrom (ways g.O.Outside.goes g.O.Outside.loses) c.args.tree.now c.args.outside.now c.args.place (λ style. handled c.args.body.now (handlers_of c.args.handlers.now)) c.handle.new.tree c.handle.new.outside)
     (λ e h q style at. goes_on {i = Script c.args.body.now} (at_prog (ap script (sym c.in_ok-script.ensures.cases)) (caught q style (record { names = at.names; style_is = at.style_is })))
-    (h q style (still_at _ _ c.args.place q style c.eval_value.ensures.keeps.steady at))) c.handle.ensures.runs
+    (h q style (still_at c.args.tree.now c.eval_value.new.tree c.args.place q style (here_caught c.eval_value.result c.caught.result c.in_ok-completion.completion c.args.tree.now c.eval_value.new.tree c.args.place c.in_ok-completion.was c.caught.ensures c.eval_value.ensures.here) at))) c.handle.ensures.runs
 
 pub trying::handled-returns-clause-keeps : goal.trying::handled-returns-clause-keeps
 trying::handled-returns-clause-keeps g t c =
@@ -2099,7 +2085,7 @@ trying::try_script-returns-in_err-script-clause-runs g t c =
 
 pub trying::try_script-eval_value-requires : goal.trying::try_script-eval_value-requires
 trying::try_script-eval_value-requires g t c κs within =
-    (search rules, (search rules, let r = still_running _ _ c.args.place c.handled-ended.ensures.keeps.steady c.requires in (r.0, r.1)))
+    (search rules, (search rules, let r = still_running c.args.tree.now c.handled-ended.new.tree c.args.place (here_caught c.handled-ended.result c.caught.result c.in_ok-completion.completion c.args.tree.now c.handled-ended.new.tree c.args.place c.in_ok-completion.was c.caught.ensures c.handled-ended.ensures.here) c.requires in (r.0, r.1)))
 
 pub trying::try_script-returns-in_err-on_ok-clause-runs : goal.trying::try_script-returns-in_err-on_ok-clause-runs
 trying::try_script-returns-in_err-on_ok-clause-runs g t c =
@@ -2112,7 +2098,7 @@ trying::try_script-returns-in_err-on_ok-clause-runs g t c =
     c.in_err-on_ok.ensures.same c.eval_value.ensures.runs c.in_err-on_ok.ensures.stays)
     (λ e h q style at.
     let same = c.integers.ensures ∙ at.style_is in
-    let after = still_at _ _ c.args.place q style c.handled-ended.ensures.keeps.steady at in
+    let after = still_at c.args.tree.now c.handled-ended.new.tree c.args.place q style (here_caught c.handled-ended.result c.caught.result c.in_ok-completion.completion c.args.tree.now c.handled-ended.new.tree c.args.place c.in_ok-completion.was c.caught.ensures c.handled-ended.ensures.here) at in
     Choosing.try_begins style c.args.args.now (take (length c.args.args.now - 1) (drop 1 c.args.args.now)) c.body-item.result (tried_seen c.in_ok-tried.tried) (split_first c.args.args.now c.body-item.result c.in-len1-up.len_at_least c.body-item.is) (ap (λ (s : Integers). tried_of s (take (length c.args.args.now - 1) (drop 1 c.args.args.now))) (sym same) ∙ c.in_ok-tried.ensures)
     (Choosing.finish_stays style c.body-item.result (handlers_of c.in_ok-tried.tried.handlers.items) (option_copied c.in_ok-tried.tried.last) c.in-Some.last.now (completion_of c.in_ok-completion.completion) e some h.1 (at_prog (ap (λ (hs : List TriedHandler). handled c.body-item.result (handlers_of hs)) (sym c.as_slice.ensures.value)) (caught q style at))
     (at_prog (ap script (sym c.in_ok-script.ensures.cases)) (h.0 q style (record { names = after.names; style_is = after.style_is })))))
@@ -2131,13 +2117,13 @@ trying::try_script-returns-clause-runs g t c =
     (EndsFrom (ways g.O.Outside.goes g.O.Outside.loses) c.args.tree.now c.args.outside.now c.args.place (λ style. try_script style c.args.args.now) c.eval_value.new.tree c.eval_value.new.outside)
     (λ e h q style at.
     let same = c.integers.ensures ∙ at.style_is in
-    let after = still_at _ _ c.args.place q style c.handled-ended.ensures.keeps.steady at in
+    let after = still_at c.args.tree.now c.handled-ended.new.tree c.args.place q style (here_caught c.handled-ended.result c.caught.result c.in_ok-completion.completion c.args.tree.now c.handled-ended.new.tree c.args.place c.in_ok-completion.was c.caught.ensures c.handled-ended.ensures.here) at in
     Choosing.try_begins style c.args.args.now (take (length c.args.args.now - 1) (drop 1 c.args.args.now)) c.body-item.result (tried_seen c.in_ok-tried.tried) (split_first c.args.args.now c.body-item.result c.in-len1-up.len_at_least c.body-item.is) (ap (λ (s : Integers). tried_of s (take (length c.args.args.now - 1) (drop 1 c.args.args.now))) (sym same) ∙ c.in_ok-tried.ensures)
     (Choosing.finish_goes style c.body-item.result (handlers_of c.in_ok-tried.tried.handlers.items) (option_copied c.in_ok-tried.tried.last) c.in-Some.last.now (completion_of c.in_ok-completion.completion) x.0 c.in_ok-on_ok.field-0 some x.2 x.3 (at_prog (ap (λ (hs : List TriedHandler). handled c.body-item.result (handlers_of hs)) (sym c.as_slice.ensures.value)) (caught q style at))
     (at_prog (ap script (sym c.in_ok-script.ensures.cases)) (x.1 q style (record { names = after.names; style_is = after.style_is }))) (at_reply h completed)))
     (λ q style at.
     let same = c.integers.ensures ∙ at.style_is in
-    let after = still_at _ _ c.args.place q style c.handled-ended.ensures.keeps.steady at in
+    let after = still_at c.args.tree.now c.handled-ended.new.tree c.args.place q style (here_caught c.handled-ended.result c.caught.result c.in_ok-completion.completion c.args.tree.now c.handled-ended.new.tree c.args.place c.in_ok-completion.was c.caught.ensures c.handled-ended.ensures.here) at in
     Choosing.try_begins style c.args.args.now (take (length c.args.args.now - 1) (drop 1 c.args.args.now)) c.body-item.result (tried_seen c.in_ok-tried.tried) (split_first c.args.args.now c.body-item.result c.in-len1-up.len_at_least c.body-item.is) (ap (λ (s : Integers). tried_of s (take (length c.args.args.now - 1) (drop 1 c.args.args.now))) (sym same) ∙ c.in_ok-tried.ensures)
     (Choosing.finish_goes style c.body-item.result (handlers_of c.in_ok-tried.tried.handlers.items) (option_copied c.in_ok-tried.tried.last) c.in-Some.last.now (completion_of c.in_ok-completion.completion) x.0 c.in_ok-on_ok.field-0 some x.2 x.3 (at_prog (ap (λ (hs : List TriedHandler). handled c.body-item.result (handlers_of hs)) (sym c.as_slice.ensures.value)) (caught q style at))
     (at_prog (ap script (sym c.in_ok-script.ensures.cases)) (x.1 q style (record { names = after.names; style_is = after.style_is }))) stopped))
@@ -2293,10 +2279,10 @@ hosting::make_call-returns-in_err-reply-clause-runs g t c =
 pub hosting::make_call-returns-clause-runs : goal.hosting::make_call-returns-clause-runs
 hosting::make_call-returns-clause-runs g t c =
     call_answered (ways g.O.Outside.goes g.O.Outside.loses) c.args.tree.now c.ask.new.tree c.answer.new.tree c.args.outside.now c.ask.new.outside c.args.place c.args.call.now (request_of c.in_ok-request.request) (reply_of c.in_ok-reply.reply) c.answer.result
-    c.in_ok-request.ensures c.in_ok-reply.ensures.runs c.ask.ensures.keeps.steady c.answer.ensures.acts
+    c.in_ok-request.ensures c.in_ok-reply.ensures.runs c.in_ok-reply.ensures.here c.answer.ensures.acts
 
 pub hosting::make_call-answer-requires : goal.hosting::make_call-answer-requires
-hosting::make_call-answer-requires g t c = let r = still_running _ _ c.args.place c.ask.ensures.keeps.steady c.requires in (r.0, r.1)
+hosting::make_call-answer-requires g t c = let r = still_running c.args.tree.now c.ask.new.tree c.args.place c.in_ok-reply.ensures.here c.requires in (r.0, r.1)
 
 pub hosting::make_call-returns-clause-keeps : goal.hosting::make_call-returns-clause-keeps
 hosting::make_call-returns-clause-keeps g t c = keeps-trans c.ask.ensures.keeps (level_keeps _ c.answer.ensures.level)
@@ -2341,12 +2327,12 @@ sourcing::source_file-returns-in_err-script-clause-runs g t c =
     ran_err c.from_residual.result c.in_err-script.field-0.0 p.0 _ _ _ p.1 p.2 c.in_err-script.ensures.runs (λ e h. h)
 
 pub sourcing::source_file-eval_file-requires : goal.sourcing::source_file-eval_file-requires
-sourcing::source_file-eval_file-requires g t c κs within = (search rules, (search rules, still_running _ _ c.args.place c.read_file.ensures.keeps.steady c.requires))
+sourcing::source_file-eval_file-requires g t c κs within = (search rules, (search rules, still_running c.args.tree.now c.read_file.new.tree c.args.place c.in_ok-script.ensures.here c.requires))
 
 pub sourcing::source_file-returns-clause-runs : goal.sourcing::source_file-returns-clause-runs
 sourcing::source_file-returns-clause-runs g t c =
     script_goes (ways g.O.Outside.goes g.O.Outside.loses) c.args.tree.now c.read_file.new.tree c.eval_file.new.tree c.args.outside.now c.read_file.new.outside c.eval_file.new.outside c.args.place (sourcing.sources c.args.file.now) c.in_ok-script.script c.eval_file.result
-    c.in_ok-script.ensures.runs c.read_file.ensures.keeps.steady c.eval_file.ensures.runs
+    c.in_ok-script.ensures.runs c.in_ok-script.ensures.here c.eval_file.ensures.runs
 
 pub sourcing::source_file-returns-clause-keeps : goal.sourcing::source_file-returns-clause-keeps
 sourcing::source_file-returns-clause-keeps g t c = keeps-trans c.read_file.ensures.keeps c.eval_file.ensures.keeps
@@ -2374,7 +2360,7 @@ sourcing::read_file-returns-in_err-channel-clause-runs g t c =
     p.1 p.2 c.in_err-channel.ensures
 
 pub sourcing::read_file-read_channel-requires : goal.sourcing::read_file-read_channel-requires
-sourcing::read_file-read_channel-requires g t c κs within = (search rules, (search rules, still_running _ _ c.args.place c.ask.ensures.keeps.steady c.requires))
+sourcing::read_file-read_channel-requires g t c κs within = (search rules, (search rules, still_running c.args.tree.now c.ask.new.tree c.args.place c.in_ok-reply.ensures.here c.requires))
 
 pub sourcing::read_file-returns-clause-runs : goal.sourcing::read_file-returns-clause-runs
 sourcing::read_file-returns-clause-runs g t c =
@@ -2382,7 +2368,7 @@ sourcing::read_file-returns-clause-runs g t c =
     reads_after (ways g.O.Outside.goes g.O.Outside.loses) c.args.tree.now c.ask.new.tree c.read_channel.new.tree c.args.outside.now c.ask.new.outside c.read_channel.new.outside c.args.place (sourcing.sources c.args.file.now) (sourcing.reads_script c.args.file.now c.in_ok-channel.channel) c.read_channel.result
     (λ q style at V w e h. reads_heard (ways g.O.Outside.goes g.O.Outside.loses) c.args.tree.now c.ask.new.tree c.ask.new.tree c.args.outside.now c.ask.new.outside c.ask.new.outside c.args.place (sourcing.sources c.args.file.now) (asking.Request.Open c.in_ok-clone.field-0 (codes "r")) (sourcing.script_opened c.args.file.now) (reply_of c.in_ok-reply.reply)
     (ap (λ (x : Text). hosting.asks (asking.Request.Open x (codes "r")) (sourcing.script_opened c.args.file.now)) (sym file)) c.in_ok-reply.ensures.runs q style at V w e (at_prog c.in_ok-channel.ensures h))
-    c.ask.ensures.keeps.steady c.read_channel.ensures.runs
+    c.in_ok-reply.ensures.here c.read_channel.ensures.runs
 
 pub sourcing::read_file-returns-clause-keeps : goal.sourcing::read_file-returns-clause-keeps
 sourcing::read_file-returns-clause-keeps g t c = keeps-trans c.ask.ensures.keeps c.read_channel.ensures.keeps
@@ -2406,7 +2392,7 @@ sourcing::read_channel-returns-in_err-read-clause-runs g t c =
     c.from_residual-in_err-read.result c.in_err-read.field-0.0 p.0 (ap (λ (x : Text). hosting.asks (asking.Request.ReadAll x) (λ read. hosting.asks (asking.Request.Close c.args.channel.now) (sourcing.closed c.args.file.now read))) (sym channel)) p.1 p.2 c.in_err-read.ensures.runs
 
 pub sourcing::read_channel-ask-requires-2 : goal.sourcing::read_channel-ask-requires-2
-sourcing::read_channel-ask-requires-2 g t c κs within = (search rules, (search rules, still_running _ _ c.args.place c.ask.ensures.keeps.steady c.requires))
+sourcing::read_channel-ask-requires-2 g t c κs within = (search rules, (search rules, still_running c.args.tree.now c.ask.new.tree c.args.place c.in_ok-read.ensures.here c.requires))
 
 pub sourcing::read_channel-returns-in_err-closed-clause-runs : goal.sourcing::read_channel-returns-in_err-closed-clause-runs
 sourcing::read_channel-returns-in_err-closed-clause-runs g t c =
@@ -2416,7 +2402,7 @@ sourcing::read_channel-returns-in_err-closed-clause-runs g t c =
     heard_once (ways g.O.Outside.goes g.O.Outside.loses) c.args.tree.now c.ask.new.tree c.ask-2.new.tree c.args.outside.now c.ask.new.outside c.ask-2.new.outside c.args.place (sourcing.reads_script c.args.file.now c.args.channel.now) (asking.Request.ReadAll c.in_ok-clone.field-0) (asking.Request.Close c.in_ok-clone-2.field-0)
     (sourcing.closed c.args.file.now) (reply_of c.in_ok-read.read) c.from_residual-in_err-closed.result c.in_err-closed.field-0.0 p.0
     (λ i. hosting.asks (asking.Request.ReadAll (sym channel i)) (λ read. hosting.asks (asking.Request.Close (sym closes i)) (sourcing.closed c.args.file.now read)))
-    c.in_ok-read.ensures.runs c.ask.ensures.keeps.steady p.1 p.2 c.in_err-closed.ensures.runs
+    c.in_ok-read.ensures.runs c.in_ok-read.ensures.here p.1 p.2 c.in_err-closed.ensures.runs
 
 pub sourcing::read_channel-returns-in_err-closed-clause-keeps : goal.sourcing::read_channel-returns-in_err-closed-clause-keeps
 sourcing::read_channel-returns-in_err-closed-clause-keeps g t c = keeps-trans c.ask.ensures.keeps c.ask-2.ensures.keeps
@@ -2429,7 +2415,7 @@ sourcing::read_channel-returns-clause-runs g t c =
     (heard_twice (ways g.O.Outside.goes g.O.Outside.loses) c.args.tree.now c.ask.new.tree c.ask-2.new.tree c.args.outside.now c.ask.new.outside c.ask-2.new.outside c.args.place (sourcing.reads_script c.args.file.now c.args.channel.now) (asking.Request.ReadAll c.in_ok-clone.field-0) (asking.Request.Close c.in_ok-clone-2.field-0)
     (sourcing.closed c.args.file.now) (reply_of c.in_ok-read.read) (reply_of c.in_ok-closed.closed)
     (λ i. hosting.asks (asking.Request.ReadAll (sym channel i)) (λ read. hosting.asks (asking.Request.Close (sym closes i)) (sourcing.closed c.args.file.now read)))
-    c.in_ok-read.ensures.runs c.ask.ensures.keeps.steady c.in_ok-closed.ensures.runs) c.script_of_file.ensures
+    c.in_ok-read.ensures.runs c.in_ok-read.ensures.here c.in_ok-closed.ensures.runs) c.script_of_file.ensures
 
 pub sourcing::read_channel-returns-clause-keeps : goal.sourcing::read_channel-returns-clause-keeps
 sourcing::read_channel-returns-clause-keeps g t c = keeps-trans c.ask.ensures.keeps c.ask-2.ensures.keeps
@@ -2496,30 +2482,27 @@ crossing::call_alias-returns-in-Outside-clause-runs g t c =
     let same = alias_is c.args.alias.now c.args.word.now c.args.args.now c.up-up.result c.down-down.result.now (whole_entry c.in_ok-entry.entry) up c.down-down.ensures
     (c.in_ok-entry.ensures ∙ ap (λ (ws : List (List ℕ)). CallWords (ws ++ c.args.args.now)) c.words.ensures) in
     evaluates_same (ways g.O.Outside.goes g.O.Outside.loses) c.args.tree.now c.call_past_top.new.tree c.args.outside.now c.call_past_top.new.outside c.args.place (alias_program c.args.alias.now c.args.word.now c.args.args.now) _ c.call_past_top.result same
-    (calls_past (ways g.O.Outside.goes g.O.Outside.loses) c.args.tree.now c.call_past_top.new.tree c.args.outside.now c.call_past_top.new.outside c.args.place c.up-up.result c.down-down.result.now (whole_entry c.in_ok-entry.entry)
-    c.call_past_top.result (failing (lost_alias c.args.word.now)) c.call_past_top.ensures.runs)
+    c.call_past_top.ensures.runs
 
 pub crossing::call_past_top-returns-in_err-notify-clause-runs : goal.crossing::call_past_top-returns-in_err-notify-clause-runs
 crossing::call_past_top-returns-in_err-notify-clause-runs g t c =
     let p = err_from_is_err_and c.from_residual.result c.from_residual.ensures.1 in
-    Awaited.calls_out_lost (ways g.O.Outside.goes g.O.Outside.loses) c.args.tree.now c.args.outside.now c.notify.new.self c.args.caller (Some c.args.up) c.args.down.now (whole_entry c.args.entry) c.from_residual.result p.0 p.1 p.2 (lost_once c.notify.ensures.lost)
+    Awaited.calls_out_lost (ways g.O.Outside.goes g.O.Outside.loses) c.args.tree.now c.args.outside.now c.notify.new.self c.args.caller (Some c.args.up) c.args.down.now (whole_entry c.args.entry) (failing (lost_alias c.args.word.now)) c.from_residual.result p.0 p.1 p.2 (lost_once c.notify.ensures.lost)
 
 pub crossing::call_past_top-returns-in_err-value-clause-runs : goal.crossing::call_past_top-returns-in_err-value-clause-runs
 crossing::call_past_top-returns-in_err-value-clause-runs g t c =
     let p = err_from_is_err_and c.from_residual-in_err-value.result c.from_residual-in_err-value.ensures.1 in
-    Awaited.calls_out_over (ways g.O.Outside.goes g.O.Outside.loses) c.args.tree.now c.wait.new.tree c.args.outside.now c.notify.new.self c.wait.new.outside c.args.caller (Some c.args.up) c.args.down.now (whole_entry c.args.entry)
+    Awaited.calls_out_over (ways g.O.Outside.goes g.O.Outside.loses) c.args.tree.now c.wait.new.tree c.args.outside.now c.notify.new.self c.wait.new.outside c.args.caller (Some c.args.up) c.args.down.now (whole_entry c.args.entry) (failing (lost_alias c.args.word.now))
     (λ q at e. c.in_ok-notify.ensures.told q at e) c.requires.above c.from_residual-in_err-value.result c.in_err-value.field-0.0 p.0 p.1 p.2 c.in_err-value.ensures.runs
 
-pub crossing::call_past_top-returns-clause-runs : goal.crossing::call_past_top-returns-clause-runs
-crossing::call_past_top-returns-clause-runs g t c =
-    Awaited.calls_out_on (ways g.O.Outside.goes g.O.Outside.loses) c.args.tree.now c.wait.new.tree c.args.outside.now c.notify.new.self c.wait.new.outside c.args.caller (Some c.args.up) c.args.down.now (whole_entry c.args.entry)
+pub crossing::call_past_top-returns-in-Completed-clause-runs : goal.crossing::call_past_top-returns-in-Completed-clause-runs
+crossing::call_past_top-returns-in-Completed-clause-runs g t c =
+    Awaited.calls_out_on (ways g.O.Outside.goes g.O.Outside.loses) c.args.tree.now c.wait.new.tree c.args.outside.now c.notify.new.self c.wait.new.outside c.args.caller (Some c.args.up) c.args.down.now (whole_entry c.args.entry) (failing (lost_alias c.args.word.now))
     (λ q at e. c.in_ok-notify.ensures.told q at e) c.requires.above c.in-Completed.value
     (subst (SaysOn (ways g.O.Outside.goes g.O.Outside.loses) c.args.tree.now c.notify.new.self c.args.caller (Some c.args.up) (whole_entry c.args.entry) c.wait.new.tree c.wait.new.outside) c.in-Completed.is c.in_ok-value.ensures.runs)
 
 pub crossing::call_there-return_to_caller-requires : goal.crossing::call_there-return_to_caller-requires
-crossing::call_there-return_to_caller-requires g t c =
-    let p = c.requires.running.0 in
-    (p, c.serve_entry-ended.ensures.keeps.steady.keys p _ c.requires.running.1 c.requires.running.2)
+crossing::call_there-return_to_caller-requires g t c = (c.requires.running.0, (depth_of (tree_of c.args.tree.now c.requires.running.0), steady_holds c.args.tree.now c.serve_entry-ended.new.tree c.args.caller c.requires.running.0 c.serve_entry-ended.ensures.keeps.steady c.requires.running.1 c.requires.running.2))
 
 pub crossing::call_there-returns-in_err-notify-clause-runs : goal.crossing::call_there-returns-in_err-notify-clause-runs
 crossing::call_there-returns-in_err-notify-clause-runs g t c =
@@ -2541,102 +2524,999 @@ pub crossing::serve_entry-returns-clause-runs : goal.crossing::serve_entry-retur
 crossing::serve_entry-returns-clause-runs g t c =
     breaks c.denied.result (λ e. e ≡ Completed (failing denied)) _ (λ e h p style at. at_prog (ap (λ i. serve style (whole_entry i)) c.in-AskHost.is) (at_reply h completed)) (λ p style at. stopped) c.denied.ensures
 
+-- # Where evaluations came to completions
+
+pub evaluation::eval_script-returns-clause-here : goal.evaluation::eval_script-returns-clause-here
+evaluation::eval_script-returns-clause-here g t c =
+    OnCompletion-more c.eval_commands-ended.result (IsHere c.nest_at.new.self c.eval_commands-ended.new.tree c.args.place) (IsHere c.args.tree.now c.unnest.new.self c.args.place)
+    (λ h. nested_here c.args.tree.now c.nest_at.new.self c.eval_commands-ended.new.tree c.args.place c.requires.0 c.requires.1 c.in_default.ensures.keys c.in_default.ensures.deeper (c.in_default.ensures.nested c.requires.0 c.requires.1).1 c.eval_commands-ended.ensures.keeps.steady
+    c.unnest.new.self c.unnest.ensures.keys c.unnest.ensures.shallower (c.unnest.ensures.unnested c.requires.0 1 (nested_holds c.args.tree.now c.nest_at.new.self c.eval_commands-ended.new.tree c.args.place c.requires.0 c.requires.1 c.in_default.ensures.keys c.in_default.ensures.deeper (c.in_default.ensures.nested c.requires.0 c.requires.1).1 c.eval_commands-ended.ensures.keeps.steady)) c.in_default.ensures.marks c.unnest.ensures.marks h) c.eval_commands-ended.ensures.here
+
+pub evaluation::eval_script-returns-in-Err-clause-here : goal.evaluation::eval_script-returns-in-Err-clause-here
+evaluation::eval_script-returns-in-Err-clause-here g t c = Completes-all c.too_deep.result (IsHere c.args.tree.now c.nest_at.new.self c.args.place) (level_here c.args.tree.now c.nest_at.new.self c.args.place (same_level c.args.tree.now c.nest_at.new.self c.in-Err.ensures.marks c.in-Err.ensures.keys c.in-Err.ensures.held (c.in-Err.ensures.refused c.requires.0 c.requires.1).1))
+
+pub crossing::call_target-returns-clause-here : goal.crossing::call_target-returns-clause-here
+crossing::call_target-returns-clause-here g t c =
+    OnCompletion-more c.call-ended.result (IsHere c.nest_at.new.self c.call-ended.new.tree c.args.place) (IsHere c.args.tree.now c.unnest.new.self c.args.place)
+    (λ h. nested_here c.args.tree.now c.nest_at.new.self c.call-ended.new.tree c.args.place c.requires.0 c.requires.1 c.in_default.ensures.keys c.in_default.ensures.deeper (c.in_default.ensures.nested c.requires.0 c.requires.1).1 c.call-ended.ensures.keeps.steady
+    c.unnest.new.self c.unnest.ensures.keys c.unnest.ensures.shallower (c.unnest.ensures.unnested c.requires.0 1 (nested_holds c.args.tree.now c.nest_at.new.self c.call-ended.new.tree c.args.place c.requires.0 c.requires.1 c.in_default.ensures.keys c.in_default.ensures.deeper (c.in_default.ensures.nested c.requires.0 c.requires.1).1 c.call-ended.ensures.keeps.steady)) c.in_default.ensures.marks c.unnest.ensures.marks h) c.call-ended.ensures.here
+
+pub crossing::call_target-returns-in-Err-clause-here : goal.crossing::call_target-returns-in-Err-clause-here
+crossing::call_target-returns-in-Err-clause-here g t c = Completes-all c.too_deep.result (IsHere c.args.tree.now c.nest_at.new.self c.args.place) (level_here c.args.tree.now c.nest_at.new.self c.args.place (same_level c.args.tree.now c.nest_at.new.self c.in-Err.ensures.marks c.in-Err.ensures.keys c.in-Err.ensures.held (c.in-Err.ensures.refused c.requires.0 c.requires.1).1))
+
+pub crossing::invoke-invoke_at-ended-requires : goal.crossing::invoke-invoke_at-ended-requires
+crossing::invoke-invoke_at-ended-requires g t c κs within =
+    let p = c.requires.0 in
+    let names = c.requires.1 in
+    let free = c.in_default.ensures.nested p names in
+    let top = stands (tree_of c.args.tree.now []) (top_there c.args.tree.now) in
+    let fewer = less_room (tree_of c.args.tree.now) (tree_of c.nest_at.new.self) p top.0 top.1 (c.keeps_form.ensures.most [] top.0 top.1) free.0 free.1 in
+    (search rules, (search rules, (p, c.in_default.ensures.keys p ∙ names, begun_at c.args.tree.now c.nest_at.new.self c.args.place p names free.1)))
+
+pub crossing::invoke-returns-clause-here : goal.crossing::invoke-returns-clause-here
+crossing::invoke-returns-clause-here g t c =
+    OnCompletion-more c.invoke_at-ended.result (IsHere c.nest_at.new.self c.invoke_at-ended.new.tree c.args.place) (IsHere c.args.tree.now c.unnest.new.self c.args.place)
+    (λ h. nested_here c.args.tree.now c.nest_at.new.self c.invoke_at-ended.new.tree c.args.place c.requires.0 c.requires.1 c.in_default.ensures.keys c.in_default.ensures.deeper (c.in_default.ensures.nested c.requires.0 c.requires.1).1 c.invoke_at-ended.ensures.keeps.steady
+    c.unnest.new.self c.unnest.ensures.keys c.unnest.ensures.shallower (c.unnest.ensures.unnested c.requires.0 1 (nested_holds c.args.tree.now c.nest_at.new.self c.invoke_at-ended.new.tree c.args.place c.requires.0 c.requires.1 c.in_default.ensures.keys c.in_default.ensures.deeper (c.in_default.ensures.nested c.requires.0 c.requires.1).1 c.invoke_at-ended.ensures.keeps.steady)) c.in_default.ensures.marks c.unnest.ensures.marks h) c.invoke_at-ended.ensures.here
+
+pub crossing::invoke-returns-in-Err-clause-here : goal.crossing::invoke-returns-in-Err-clause-here
+crossing::invoke-returns-in-Err-clause-here g t c = Completes-all c.too_deep.result (IsHere c.args.tree.now c.nest_at.new.self c.args.place) (level_here c.args.tree.now c.nest_at.new.self c.args.place (same_level c.args.tree.now c.nest_at.new.self c.in-Err.ensures.marks c.in-Err.ensures.keys c.in-Err.ensures.held (c.in-Err.ensures.refused c.requires.0 c.requires.1).1))
+
+pub commands::call_procedure-leave_frame-requires : goal.commands::call_procedure-leave_frame-requires
+commands::call_procedure-leave_frame-requires g t c = (c.requires.0, (depth_of (tree_of c.args.tree.now c.requires.0), steady_holds c.args.tree.now c.eval_value-ended.new.tree c.args.place c.requires.0 (steady-trans c.args.tree.now c.enter_frame.new.tree c.eval_value-ended.new.tree (level_steady c.args.tree.now c.enter_frame.new.tree c.enter_frame.ensures.level) c.eval_value-ended.ensures.keeps.steady) c.requires.1 c.requires.2))
+
+pub commands::call_procedure-returns-clause-keeps : goal.commands::call_procedure-returns-clause-keeps
+commands::call_procedure-returns-clause-keeps g t c = keeps-trans (level_keeps _ c.enter_frame.ensures.level) (keeps-trans c.eval_value-ended.ensures.keeps (level_keeps _ c.leave_frame.ensures.level))
+
+pub commands::call_procedure-returns-clause-here : goal.commands::call_procedure-returns-clause-here
+commands::call_procedure-returns-clause-here g t c =
+    here_left c.eval_value-ended.result c.left_proc.result (IsHere c.args.tree.now c.leave_frame.new.tree c.args.place) c.left_proc.ensures
+    (here_level c.eval_value-ended.result c.args.tree.now c.eval_value-ended.new.tree c.leave_frame.new.tree c.args.place (here_then c.eval_value-ended.result c.args.tree.now c.enter_frame.new.tree c.eval_value-ended.new.tree c.args.place (level_here c.args.tree.now c.enter_frame.new.tree c.args.place c.enter_frame.ensures.level) c.eval_value-ended.ensures.here) c.leave_frame.ensures.level)
+
+pub loops::uplevel-bring_back-requires : goal.loops::uplevel-bring_back-requires
+loops::uplevel-bring_back-requires g t c = (c.requires.0, (depth_of (tree_of c.args.tree.now c.requires.0), steady_holds c.args.tree.now c.eval_value-ended.new.tree c.args.place c.requires.0 (steady-trans c.args.tree.now c.set_aside.new.tree c.eval_value-ended.new.tree (level_steady c.args.tree.now c.set_aside.new.tree c.set_aside.ensures.level) c.eval_value-ended.ensures.keeps.steady) c.requires.1 c.requires.2))
+
+pub loops::uplevel-returns-clause-keeps : goal.loops::uplevel-returns-clause-keeps
+loops::uplevel-returns-clause-keeps g t c = keeps-trans (level_keeps _ c.set_aside.ensures.level) (keeps-trans c.eval_value-ended.ensures.keeps (level_keeps _ c.bring_back.ensures.level))
+
+pub loops::uplevel-returns-clause-here : goal.loops::uplevel-returns-clause-here
+loops::uplevel-returns-clause-here g t c = here_level c.eval_value-ended.result c.args.tree.now c.eval_value-ended.new.tree c.bring_back.new.tree c.args.place (here_then c.eval_value-ended.result c.args.tree.now c.set_aside.new.tree c.eval_value-ended.new.tree c.args.place (level_here c.args.tree.now c.set_aside.new.tree c.args.place c.set_aside.ensures.level) c.eval_value-ended.ensures.here) c.bring_back.ensures.level
+
+pub crossing::invoke_at-bring_back-requires : goal.crossing::invoke_at-bring_back-requires
+crossing::invoke_at-bring_back-requires g t c = (c.requires.0, (depth_of (tree_of c.args.tree.now c.requires.0), steady_holds c.args.tree.now c.call_hidden-ended.new.tree c.args.place c.requires.0 (steady-trans c.args.tree.now c.set_aside.new.tree c.call_hidden-ended.new.tree (level_steady c.args.tree.now c.set_aside.new.tree c.set_aside.ensures.level) c.call_hidden-ended.ensures.keeps.steady) c.requires.1 c.requires.2))
+
+pub crossing::invoke_at-returns-clause-keeps : goal.crossing::invoke_at-returns-clause-keeps
+crossing::invoke_at-returns-clause-keeps g t c = keeps-trans (level_keeps _ c.set_aside.ensures.level) (keeps-trans c.call_hidden-ended.ensures.keeps (level_keeps _ c.bring_back.ensures.level))
+
+pub crossing::invoke_at-returns-clause-here : goal.crossing::invoke_at-returns-clause-here
+crossing::invoke_at-returns-clause-here g t c = here_level c.call_hidden-ended.result c.args.tree.now c.call_hidden-ended.new.tree c.bring_back.new.tree c.args.place (here_then c.call_hidden-ended.result c.args.tree.now c.set_aside.new.tree c.call_hidden-ended.new.tree c.args.place (level_here c.args.tree.now c.set_aside.new.tree c.args.place c.set_aside.ensures.level) c.call_hidden-ended.ensures.here) c.bring_back.ensures.level
+
+pub crossing::invoke_at-call_hidden-ended-requires : goal.crossing::invoke_at-call_hidden-ended-requires
+crossing::invoke_at-call_hidden-ended-requires g t c κs within = (search rules, (search rules, still_running c.args.tree.now c.set_aside.new.tree c.args.place (level_here c.args.tree.now c.set_aside.new.tree c.args.place c.set_aside.ensures.level) c.requires))
+
+pub evaluation::eval_command-charge-requires : goal.evaluation::eval_command-charge-requires
+evaluation::eval_command-charge-requires g t c = (c.requires.running.0, still_named c.args.tree.now c.words.tree c.args.place c.requires.running.0 c.words.invariant.here c.requires.running.1)
+
+pub control::catch-keep_caught-requires : goal.control::catch-keep_caught-requires
+control::catch-keep_caught-requires g t c = (c.requires.0, still_named c.args.tree.now c.eval_value.new.tree c.args.place c.requires.0 (here_caught c.eval_value.result c.caught.result c.in_ok-completion.completion c.args.tree.now c.eval_value.new.tree c.args.place c.in_ok-completion.was c.caught.ensures c.eval_value.ensures.here) c.requires.1)
+
+pub expressions::turn-charge-requires : goal.expressions::turn-charge-requires
+expressions::turn-charge-requires g t c = (c.requires.0, still_named c.args.tree.now c.condition.new.tree c.args.place c.requires.0 c.in_ok-condition.ensures.here c.requires.1)
+
+pub expressions::turn-eval_value-requires : goal.expressions::turn-eval_value-requires
+expressions::turn-eval_value-requires g t c κs within = (search rules, (search rules, (c.requires.0, still_named c.args.tree.now c.charge.new.tree c.args.place c.requires.0 (here-trans c.args.tree.now c.condition.new.tree c.charge.new.tree c.args.place c.in_ok-condition.ensures.here (level_here c.condition.new.tree c.charge.new.tree c.args.place c.charge.ensures.level)) c.requires.1)))
+
+pub loops::walk_through-charge-requires : goal.loops::walk_through-charge-requires
+loops::walk_through-charge-requires g t c = (c.requires.0, still_named c.args.tree.now c.turns.tree c.args.place c.requires.0 c.turns.invariant.here c.requires.1)
+
+pub loops::walk_through-set_walks-requires : goal.loops::walk_through-set_walks-requires
+loops::walk_through-set_walks-requires g t c = (c.requires.0, still_named c.args.tree.now c.charge.new.tree c.args.place c.requires.0 (here-trans c.args.tree.now c.turns.tree c.charge.new.tree c.args.place c.turns.invariant.here (level_here c.turns.tree c.charge.new.tree c.args.place c.charge.ensures.level)) c.requires.1)
+
+pub loops::walk_through-eval_value-requires : goal.loops::walk_through-eval_value-requires
+loops::walk_through-eval_value-requires g t c κs within = (search rules, (search rules, (c.requires.0, still_named c.args.tree.now c.set_walks.new.tree c.args.place c.requires.0 (here-trans c.args.tree.now c.charge.new.tree c.set_walks.new.tree c.args.place (here-trans c.args.tree.now c.turns.tree c.charge.new.tree c.args.place c.turns.invariant.here (level_here c.turns.tree c.charge.new.tree c.args.place c.charge.ensures.level)) (level_here c.charge.new.tree c.set_walks.new.tree c.args.place c.set_walks.ensures.level)) c.requires.1)))
+
+pub collecting::lmap-charge-requires : goal.collecting::lmap-charge-requires
+collecting::lmap-charge-requires g t c = (c.requires.0, still_named c.args.tree.now c.turns.tree c.args.place c.requires.0 c.turns.invariant.here c.requires.1)
+
+pub collecting::lmap-set_walks-requires : goal.collecting::lmap-set_walks-requires
+collecting::lmap-set_walks-requires g t c = (c.requires.0, still_named c.args.tree.now c.charge.new.tree c.args.place c.requires.0 (here-trans c.args.tree.now c.turns.tree c.charge.new.tree c.args.place c.turns.invariant.here (level_here c.turns.tree c.charge.new.tree c.args.place c.charge.ensures.level)) c.requires.1)
+
+pub collecting::lmap-eval_value-ended-requires : goal.collecting::lmap-eval_value-ended-requires
+collecting::lmap-eval_value-ended-requires g t c κs within = (search rules, (search rules, (c.requires.0, still_named c.args.tree.now c.set_walks.new.tree c.args.place c.requires.0 (here-trans c.args.tree.now c.charge.new.tree c.set_walks.new.tree c.args.place (here-trans c.args.tree.now c.turns.tree c.charge.new.tree c.args.place c.turns.invariant.here (level_here c.turns.tree c.charge.new.tree c.args.place c.charge.ensures.level)) (level_here c.charge.new.tree c.set_walks.new.tree c.args.place c.set_walks.ensures.level)) c.requires.1)))
+
+pub evaluation::eval_commands-eval_command-requires : goal.evaluation::eval_commands-eval_command-requires
+evaluation::eval_commands-eval_command-requires g t c κs within = (search rules, (search rules, still_running c.args.tree.now c.commands.tree c.args.place c.commands.invariant.here c.requires.running))
+
+pub expressions::expression-eval_word-requires : goal.expressions::expression-eval_word-requires
+expressions::expression-eval_word-requires g t c κs within = (search rules, (search rules, still_running c.args.tree.now c.parts.tree c.args.place c.parts.invariant.here c.requires))
+
+pub expressions::while_loop-turn-requires : goal.expressions::while_loop-turn-requires
+expressions::while_loop-turn-requires g t c κs within = (search rules, (search rules, still_running c.args.tree.now c.turns.tree c.args.place c.turns.invariant.here c.requires))
+
+pub expressions::if_first-eval_value-requires-2 : goal.expressions::if_first-eval_value-requires-2
+expressions::if_first-eval_value-requires-2 g t c κs within = (search rules, (search rules, (c.requires.0, still_named c.args.tree.now c.tests.tree c.args.place c.requires.0 c.tests.invariant.here c.requires.1)))
+
+pub evaluation::eval_command-returns-in_err-text-clause-here : goal.evaluation::eval_command-returns-in_err-text-clause-here
+evaluation::eval_command-returns-in_err-text-clause-here g t c =
+    let p = err_from_is_err_and c.from_residual-in_err-text.result c.from_residual-in_err-text.ensures.1 in
+    here_passed c.from_residual-in_err-text.result c.eval_word.result c.in_err-text.field-0.0 p.0 c.args.tree.now c.words.tree c.eval_word.new.tree c.args.place p.1 p.2 c.in_err-text.ensures.same c.words.invariant.here c.eval_word.ensures.here
+
+pub evaluation::eval_command-returns-in_err-spread-clause-here : goal.evaluation::eval_command-returns-in_err-spread-clause-here
+evaluation::eval_command-returns-in_err-spread-clause-here g t c = on_completion c.from_residual-in_err-spread.result (IsHere c.args.tree.now c.eval_word.new.tree c.args.place) (here-trans c.args.tree.now c.words.tree c.eval_word.new.tree c.args.place c.words.invariant.here (here_text c.eval_word.result c.in_ok-text.text c.words.tree c.eval_word.new.tree c.args.place c.in_ok-text.ensures.text c.eval_word.ensures.here))
+
+pub evaluation::eval_command-returns-then-is_empty-clause-here : goal.evaluation::eval_command-returns-then-is_empty-clause-here
+evaluation::eval_command-returns-then-is_empty-clause-here g t c = c.words.invariant.here
+
+pub evaluation::eval_command-returns-in_err-charge-clause-here : goal.evaluation::eval_command-returns-in_err-charge-clause-here
+evaluation::eval_command-returns-in_err-charge-clause-here g t c = on_completion c.from_residual-in_err-charge.result (IsHere c.args.tree.now c.charge.new.tree c.args.place) (here-trans c.args.tree.now c.words.tree c.charge.new.tree c.args.place c.words.invariant.here (level_here c.words.tree c.charge.new.tree c.args.place c.charge.ensures.level))
+
+pub evaluation::eval_command-returns-clause-here : goal.evaluation::eval_command-returns-clause-here
+evaluation::eval_command-returns-clause-here g t c = here_then c.call.result c.args.tree.now c.charge.new.tree c.call.new.tree c.args.place (here-trans c.args.tree.now c.words.tree c.charge.new.tree c.args.place c.words.invariant.here (level_here c.words.tree c.charge.new.tree c.args.place c.charge.ensures.level)) c.call.ensures.here
+
+pub evaluation::eval_commands-returns-in_err-last-clause-here : goal.evaluation::eval_commands-returns-in_err-last-clause-here
+evaluation::eval_commands-returns-in_err-last-clause-here g t c =
+    let p = err_from_is_err_and c.from_residual.result c.from_residual.ensures.1 in
+    here_passed c.from_residual.result c.eval_command.result c.in_err-last.field-0.0 p.0 c.args.tree.now c.commands.tree c.eval_command.new.tree c.args.place p.1 p.2 c.in_err-last.ensures.same c.commands.invariant.here c.eval_command.ensures.here
+
+pub evaluation::eval_commands-returns-clause-here : goal.evaluation::eval_commands-returns-clause-here
+evaluation::eval_commands-returns-clause-here g t c = on_completion c.finish.result (IsHere c.args.tree.now c.commands.tree c.args.place) c.commands.invariant.here
+
+pub evaluation::eval_lone_part-returns-in_ok-clone-in-Literal-clause-here : goal.evaluation::eval_lone_part-returns-in_ok-clone-in-Literal-clause-here
+evaluation::eval_lone_part-returns-in_ok-clone-in-Literal-clause-here g t c = unmoved c.within.result c.args.tree.now c.args.place
+
+pub evaluation::eval_lone_part-returns-in-Variable-clause-here : goal.evaluation::eval_lone_part-returns-in-Variable-clause-here
+evaluation::eval_lone_part-returns-in-Variable-clause-here g t c = unmoved c.read_variable.result c.args.tree.now c.args.place
+
+pub evaluation::eval_lone_part-returns-in_err-value-in-Script-clause-here : goal.evaluation::eval_lone_part-returns-in_err-value-in-Script-clause-here
+evaluation::eval_lone_part-returns-in_err-value-in-Script-clause-here g t c =
+    let p = err_from_is_err_and c.from_residual-in_err-value-in-Script.result c.from_residual-in_err-value-in-Script.ensures.1 in
+    here_passed c.from_residual-in_err-value-in-Script.result c.eval_text.result c.in_err-value-in-Script.field-0.0 p.0 c.args.tree.now c.args.tree.now c.eval_text.new.tree c.args.place p.1 p.2 c.in_err-value-in-Script.ensures.same (here-refl c.args.tree.now c.args.place) c.eval_text.ensures.here
+
+pub evaluation::eval_lone_part-returns-in_ok-value-in-Script-clause-here : goal.evaluation::eval_lone_part-returns-in_ok-value-in-Script-clause-here
+evaluation::eval_lone_part-returns-in_ok-value-in-Script-clause-here g t c = here_text c.eval_text.result c.in_ok-value-in-Script.value c.args.tree.now c.eval_text.new.tree c.args.place c.in_ok-value-in-Script.ensures.text c.eval_text.ensures.here
+
+pub evaluation::eval_part-returns-in_ok-value-in-Variable-clause-here : goal.evaluation::eval_part-returns-in_ok-value-in-Variable-clause-here
+evaluation::eval_part-returns-in_ok-value-in-Variable-clause-here g t c = unmoved c.append_value.result c.args.tree.now c.args.place
+
+pub evaluation::eval_part-returns-in-Literal-clause-here : goal.evaluation::eval_part-returns-in-Literal-clause-here
+evaluation::eval_part-returns-in-Literal-clause-here g t c = unmoved c.append.result c.args.tree.now c.args.place
+
+pub evaluation::eval_part-returns-in-Element-clause-here : goal.evaluation::eval_part-returns-in-Element-clause-here
+evaluation::eval_part-returns-in-Element-clause-here g t c = unmoved c.open_element.result c.args.tree.now c.args.place
+
+pub evaluation::eval_part-returns-in-EndElement-clause-here : goal.evaluation::eval_part-returns-in-EndElement-clause-here
+evaluation::eval_part-returns-in-EndElement-clause-here g t c = unmoved c.close_element.result c.args.tree.now c.args.place
+
+pub evaluation::eval_part-returns-in_err-value-in-Script-clause-here : goal.evaluation::eval_part-returns-in_err-value-in-Script-clause-here
+evaluation::eval_part-returns-in_err-value-in-Script-clause-here g t c =
+    let p = err_from_is_err_and c.from_residual-in_err-value-in-Script.result c.from_residual-in_err-value-in-Script.ensures.1 in
+    here_passed c.from_residual-in_err-value-in-Script.result c.eval_text.result c.in_err-value-in-Script.field-0.0 p.0 c.args.tree.now c.args.tree.now c.eval_text.new.tree c.args.place p.1 p.2 c.in_err-value-in-Script.ensures.same (here-refl c.args.tree.now c.args.place) c.eval_text.ensures.here
+
+pub evaluation::eval_part-returns-in_ok-value-in-Script-clause-here : goal.evaluation::eval_part-returns-in_ok-value-in-Script-clause-here
+evaluation::eval_part-returns-in_ok-value-in-Script-clause-here g t c = on_completion c.append_value-in-Script.result (IsHere c.args.tree.now c.eval_text.new.tree c.args.place) (here_text c.eval_text.result c.in_ok-value-in-Script.value c.args.tree.now c.eval_text.new.tree c.args.place c.in_ok-value-in-Script.ensures.text c.eval_text.ensures.here)
+
+pub evaluation::substitute-returns-in_err-eval_part-clause-here : goal.evaluation::substitute-returns-in_err-eval_part-clause-here
+evaluation::substitute-returns-in_err-eval_part-clause-here g t c =
+    let p = err_from_is_err_and c.from_residual.result c.from_residual.ensures.1 in
+    here_err c.from_residual.result c.in_err-eval_part.field-0.0 p.0 c.args.tree.now c.parts.tree c.eval_part.new.tree c.args.place p.1 p.2 c.parts.invariant.here c.in_err-eval_part.ensures.here
+
+pub evaluation::substitute-returns-in_err-from_string-clause-here : goal.evaluation::substitute-returns-in_err-from_string-clause-here
+evaluation::substitute-returns-in_err-from_string-clause-here g t c = on_completion c.from_residual-in_err-from_string.result (IsHere c.args.tree.now c.parts.tree c.args.place) c.parts.invariant.here
+
+pub evaluation::substitute-returns-clause-here : goal.evaluation::substitute-returns-clause-here
+evaluation::substitute-returns-clause-here g t c = c.parts.invariant.here
+
+pub commands::call_procedure-returns-in_err-enter_frame-clause-here : goal.commands::call_procedure-returns-in_err-enter_frame-clause-here
+commands::call_procedure-returns-in_err-enter_frame-clause-here g t c = on_completion c.from_residual-in_err-enter_frame.result (IsHere c.args.tree.now c.enter_frame.new.tree c.args.place) (level_here c.args.tree.now c.enter_frame.new.tree c.args.place c.enter_frame.ensures.level)
+
+pub control::catch-returns-in_err-completion-clause-here : goal.control::catch-returns-in_err-completion-clause-here
+control::catch-returns-in_err-completion-clause-here g t c =
+    let p = err_from_is_err_and c.from_residual-in_err-completion.result c.from_residual-in_err-completion.ensures.1 in
+    completes_err c.from_residual-in_err-completion.result c.in_err-completion.field-0.0 p.0 (IsHere c.args.tree.now c.eval_value.new.tree c.args.place) (IsHere c.args.tree.now c.eval_value.new.tree c.args.place) p.1 p.2
+    (uncaught c.eval_value.result c.caught.result c.in_err-completion.field-0.0 (IsHere c.args.tree.now c.eval_value.new.tree c.args.place) c.in_err-completion.was c.caught.ensures) (λ h. h)
+
+pub control::catch-returns-in_err-keep_caught-clause-here : goal.control::catch-returns-in_err-keep_caught-clause-here
+control::catch-returns-in_err-keep_caught-clause-here g t c = on_completion c.from_residual-in_err-keep_caught.result (IsHere c.args.tree.now c.keep_caught.new.tree c.args.place) (here-trans c.args.tree.now c.eval_value.new.tree c.keep_caught.new.tree c.args.place (here_caught c.eval_value.result c.caught.result c.in_ok-completion.completion c.args.tree.now c.eval_value.new.tree c.args.place c.in_ok-completion.was c.caught.ensures c.eval_value.ensures.here) (level_here c.eval_value.new.tree c.keep_caught.new.tree c.args.place c.keep_caught.ensures.level))
+
+pub control::catch-returns-clause-here : goal.control::catch-returns-clause-here
+control::catch-returns-clause-here g t c = here-trans c.args.tree.now c.eval_value.new.tree c.keep_caught.new.tree c.args.place (here_caught c.eval_value.result c.caught.result c.in_ok-completion.completion c.args.tree.now c.eval_value.new.tree c.args.place c.in_ok-completion.was c.caught.ensures c.eval_value.ensures.here) (level_here c.eval_value.new.tree c.keep_caught.new.tree c.args.place c.keep_caught.ensures.level)
+
+pub control::catch-returns-in_err-keep_caught-clause-keeps : goal.control::catch-returns-in_err-keep_caught-clause-keeps
+control::catch-returns-in_err-keep_caught-clause-keeps g t c = keeps-trans c.eval_value.ensures.keeps (level_keeps _ c.keep_caught.ensures.level)
+
+pub crossing::serve_call-returns-in_err-charge-clause-here : goal.crossing::serve_call-returns-in_err-charge-clause-here
+crossing::serve_call-returns-in_err-charge-clause-here g t c = on_completion c.from_residual-in_err-charge.result (IsHere c.args.tree.now c.charge.new.tree c.args.place) (level_here c.args.tree.now c.charge.new.tree c.args.place c.charge.ensures.level)
+
+pub crossing::serve_call-returns-clause-here : goal.crossing::serve_call-returns-clause-here
+crossing::serve_call-returns-clause-here g t c = here_then c.call_target.result c.args.tree.now c.charge.new.tree c.call_target.new.tree c.args.place (level_here c.args.tree.now c.charge.new.tree c.args.place c.charge.ensures.level) c.call_target.ensures.here
+
+pub crossing::serve_call-returns-in_err-charge-clause-keeps : goal.crossing::serve_call-returns-in_err-charge-clause-keeps
+crossing::serve_call-returns-in_err-charge-clause-keeps g t c = charged_keeps c.charge.ensures.level c.charge.ensures.left
+
+pub crossing::serve_call-returns-clause-keeps : goal.crossing::serve_call-returns-clause-keeps
+crossing::serve_call-returns-clause-keeps g t c = keeps-trans (charged_keeps c.charge.ensures.level c.charge.ensures.left) c.call_target.ensures.keeps
+
+pub crossing::serve_hidden-returns-in_err-charge-clause-here : goal.crossing::serve_hidden-returns-in_err-charge-clause-here
+crossing::serve_hidden-returns-in_err-charge-clause-here g t c = on_completion c.from_residual-in_err-charge.result (IsHere c.args.tree.now c.charge.new.tree c.args.place) (level_here c.args.tree.now c.charge.new.tree c.args.place c.charge.ensures.level)
+
+pub crossing::serve_hidden-returns-clause-here : goal.crossing::serve_hidden-returns-clause-here
+crossing::serve_hidden-returns-clause-here g t c =
+    here_settled c.invoke-ended.result c.settled.result (IsHere c.args.tree.now c.invoke-ended.new.tree c.args.place) c.settled.ensures
+    (here_then c.invoke-ended.result c.args.tree.now c.charge.new.tree c.invoke-ended.new.tree c.args.place (level_here c.args.tree.now c.charge.new.tree c.args.place c.charge.ensures.level) c.invoke-ended.ensures.here)
+
+pub crossing::serve_hidden-returns-in_err-charge-clause-keeps : goal.crossing::serve_hidden-returns-in_err-charge-clause-keeps
+crossing::serve_hidden-returns-in_err-charge-clause-keeps g t c = charged_keeps c.charge.ensures.level c.charge.ensures.left
+
+pub crossing::serve_hidden-returns-clause-keeps : goal.crossing::serve_hidden-returns-clause-keeps
+crossing::serve_hidden-returns-clause-keeps g t c = keeps-trans (charged_keeps c.charge.ensures.level c.charge.ensures.left) c.invoke-ended.ensures.keeps
+
+pub crossing::serve_eval-returns-clause-here : goal.crossing::serve_eval-returns-clause-here
+crossing::serve_eval-returns-clause-here g t c = here_settled c.eval_value-ended.result c.settled.result (IsHere c.args.tree.now c.eval_value-ended.new.tree c.args.place) c.settled.ensures c.eval_value-ended.ensures.here
+
+pub crossing::invoke_at-returns-in_err-set_aside-clause-here : goal.crossing::invoke_at-returns-in_err-set_aside-clause-here
+crossing::invoke_at-returns-in_err-set_aside-clause-here g t c = on_completion c.from_residual.result (IsHere c.args.tree.now c.set_aside.new.tree c.args.place) (level_here c.args.tree.now c.set_aside.new.tree c.args.place c.set_aside.ensures.level)
+
+pub crossing::invoke_at-returns-in_err-set_aside-clause-keeps : goal.crossing::invoke_at-returns-in_err-set_aside-clause-keeps
+crossing::invoke_at-returns-in_err-set_aside-clause-keeps g t c = level_keeps _ c.set_aside.ensures.level
+
+pub commands::call_procedure-returns-in_err-enter_frame-clause-keeps : goal.commands::call_procedure-returns-in_err-enter_frame-clause-keeps
+commands::call_procedure-returns-in_err-enter_frame-clause-keeps g t c = level_keeps _ c.enter_frame.ensures.level
+
+pub expressions::expression-returns-in_err-word-clause-here : goal.expressions::expression-returns-in_err-word-clause-here
+expressions::expression-returns-in_err-word-clause-here g t c = on_completion c.from_residual.result (IsHere c.args.tree.now c.parts.tree c.args.place) c.parts.invariant.here
+
+pub expressions::expression-returns-in_err-value-in-Wants-clause-here : goal.expressions::expression-returns-in_err-value-in-Wants-clause-here
+expressions::expression-returns-in_err-value-in-Wants-clause-here g t c =
+    let p = err_from_is_err_and c.from_residual-in_err-value-in-Wants.result c.from_residual-in_err-value-in-Wants.ensures.1 in
+    here_passed c.from_residual-in_err-value-in-Wants.result c.eval_word.result c.in_err-value-in-Wants.field-0.0 p.0 c.args.tree.now c.parts.tree c.eval_word.new.tree c.args.place p.1 p.2 c.in_err-value-in-Wants.ensures.same c.parts.invariant.here c.eval_word.ensures.here
+
+pub expressions::expression-returns-in_err-supply-in-Wants-clause-here : goal.expressions::expression-returns-in_err-supply-in-Wants-clause-here
+expressions::expression-returns-in_err-supply-in-Wants-clause-here g t c = on_completion c.from_residual-in_err-supply-in-Wants.result (IsHere c.args.tree.now c.eval_word.new.tree c.args.place) (here-trans c.args.tree.now c.parts.tree c.eval_word.new.tree c.args.place c.parts.invariant.here (here_text c.eval_word.result c.in_ok-value-in-Wants.value c.parts.tree c.eval_word.new.tree c.args.place c.in_ok-value-in-Wants.ensures.text c.eval_word.ensures.here))
+
+pub expressions::expression-returns-in-Done-clause-here : goal.expressions::expression-returns-in-Done-clause-here
+expressions::expression-returns-in-Done-clause-here g t c = on_completion c.settle.result (IsHere c.args.tree.now c.parts.tree c.args.place) c.parts.invariant.here
+
+pub expressions::condition-returns-in_err-value-clause-here : goal.expressions::condition-returns-in_err-value-clause-here
+expressions::condition-returns-in_err-value-clause-here g t c =
+    let p = err_from_is_err_and c.from_residual.result c.from_residual.ensures.1 in
+    here_passed c.from_residual.result c.expression.result c.in_err-value.field-0.0 p.0 c.args.tree.now c.args.tree.now c.expression.new.tree c.args.place p.1 p.2 c.in_err-value.ensures.same (here-refl c.args.tree.now c.args.place) c.expression.ensures.here
+
+pub expressions::condition-returns-clause-here : goal.expressions::condition-returns-clause-here
+expressions::condition-returns-clause-here g t c = on_completion c.holds.result (IsHere c.args.tree.now c.expression.new.tree c.args.place) (here_text c.expression.result c.in_ok-value.value c.args.tree.now c.expression.new.tree c.args.place c.in_ok-value.ensures.text c.expression.ensures.here)
+
+pub expressions::if_first-returns-in_err-test-clause-here : goal.expressions::if_first-returns-in_err-test-clause-here
+expressions::if_first-returns-in_err-test-clause-here g t c = on_completion c.from_residual-in_err-test.result (IsHere c.args.tree.now c.tests.tree c.args.place) c.tests.invariant.here
+
+pub expressions::if_first-returns-in_err-condition-clause-here : goal.expressions::if_first-returns-in_err-condition-clause-here
+expressions::if_first-returns-in_err-condition-clause-here g t c =
+    let p = err_from_is_err_and c.from_residual-in_err-condition.result c.from_residual-in_err-condition.ensures.1 in
+    here_err c.from_residual-in_err-condition.result c.in_err-condition.field-0.0 p.0 c.args.tree.now c.tests.tree c.condition.new.tree c.args.place p.1 p.2 c.tests.invariant.here c.in_err-condition.ensures.here
+
+pub expressions::if_first-returns-in_err-body-clause-here : goal.expressions::if_first-returns-in_err-body-clause-here
+expressions::if_first-returns-in_err-body-clause-here g t c = on_completion c.from_residual-in_err-body.result (IsHere c.args.tree.now c.condition.new.tree c.args.place) (here-trans c.args.tree.now c.tests.tree c.condition.new.tree c.args.place c.tests.invariant.here c.in_ok-condition.ensures.here)
+
+pub expressions::if_first-returns-then-branch-clause-here : goal.expressions::if_first-returns-then-branch-clause-here
+expressions::if_first-returns-then-branch-clause-here g t c = here_then c.eval_value.result c.args.tree.now c.condition.new.tree c.eval_value.new.tree c.args.place (here-trans c.args.tree.now c.tests.tree c.condition.new.tree c.args.place c.tests.invariant.here c.in_ok-condition.ensures.here) c.eval_value.ensures.here
+
+pub expressions::if_first-returns-in_default-last-clause-here : goal.expressions::if_first-returns-in_default-last-clause-here
+expressions::if_first-returns-in_default-last-clause-here g t c = c.tests.invariant.here
+
+pub expressions::if_first-returns-in_err-body-2-clause-here : goal.expressions::if_first-returns-in_err-body-2-clause-here
+expressions::if_first-returns-in_err-body-2-clause-here g t c = on_completion c.from_residual-in_err-body-2.result (IsHere c.args.tree.now c.tests.tree c.args.place) c.tests.invariant.here
+
+pub expressions::if_first-returns-clause-here : goal.expressions::if_first-returns-clause-here
+expressions::if_first-returns-clause-here g t c = here_then c.eval_value-2.result c.args.tree.now c.tests.tree c.eval_value-2.new.tree c.args.place c.tests.invariant.here c.eval_value-2.ensures.here
+
+pub expressions::turn-returns-in_err-condition-clause-here : goal.expressions::turn-returns-in_err-condition-clause-here
+expressions::turn-returns-in_err-condition-clause-here g t c =
+    let p = err_from_is_err_and c.from_residual.result c.from_residual.ensures.1 in
+    here_err c.from_residual.result c.in_err-condition.field-0.0 p.0 c.args.tree.now c.args.tree.now c.condition.new.tree c.args.place p.1 p.2 (here-refl c.args.tree.now c.args.place) c.in_err-condition.ensures.here
+
+pub expressions::turn-returns-then-not-branch-clause-here : goal.expressions::turn-returns-then-not-branch-clause-here
+expressions::turn-returns-then-not-branch-clause-here g t c = c.in_ok-condition.ensures.here
+
+pub expressions::turn-returns-in_err-charge-clause-here : goal.expressions::turn-returns-in_err-charge-clause-here
+expressions::turn-returns-in_err-charge-clause-here g t c = on_completion c.from_residual-in_err-charge.result (IsHere c.args.tree.now c.charge.new.tree c.args.place) (here-trans c.args.tree.now c.condition.new.tree c.charge.new.tree c.args.place c.in_ok-condition.ensures.here (level_here c.condition.new.tree c.charge.new.tree c.args.place c.charge.ensures.level))
+
+pub expressions::turn-returns-clause-here : goal.expressions::turn-returns-clause-here
+expressions::turn-returns-clause-here g t c =
+    here_turned after_body c.eval_value.result c.goes_on.result (IsHere c.args.tree.now c.eval_value.new.tree c.args.place) c.goes_on.ensures
+    (here_then c.eval_value.result c.args.tree.now c.charge.new.tree c.eval_value.new.tree c.args.place (here-trans c.args.tree.now c.condition.new.tree c.charge.new.tree c.args.place c.in_ok-condition.ensures.here (level_here c.condition.new.tree c.charge.new.tree c.args.place c.charge.ensures.level)) c.eval_value.ensures.here)
+
+pub expressions::turn-returns-in_err-charge-clause-keeps : goal.expressions::turn-returns-in_err-charge-clause-keeps
+expressions::turn-returns-in_err-charge-clause-keeps g t c = keeps-trans c.condition.ensures.keeps (charged_keeps c.charge.ensures.level c.charge.ensures.left)
+
+pub expressions::turn-returns-clause-keeps : goal.expressions::turn-returns-clause-keeps
+expressions::turn-returns-clause-keeps g t c = keeps-trans c.condition.ensures.keeps (keeps-trans (charged_keeps c.charge.ensures.level c.charge.ensures.left) c.eval_value.ensures.keeps)
+
+pub expressions::while_loop-returns-in_err-turn-clause-here : goal.expressions::while_loop-returns-in_err-turn-clause-here
+expressions::while_loop-returns-in_err-turn-clause-here g t c =
+    let p = err_from_is_err_and c.from_residual-in_err-turn.result c.from_residual-in_err-turn.ensures.1 in
+    here_err c.from_residual-in_err-turn.result c.in_err-turn.field-0.0 p.0 c.args.tree.now c.turns.tree c.turn.new.tree c.args.place p.1 p.2 c.turns.invariant.here c.in_err-turn.ensures.here
+
+pub expressions::while_loop-returns-then-not-branch-clause-here : goal.expressions::while_loop-returns-then-not-branch-clause-here
+expressions::while_loop-returns-then-not-branch-clause-here g t c = here-trans c.args.tree.now c.turns.tree c.turn.new.tree c.args.place c.turns.invariant.here c.in_ok-turn.ensures.here
+
+pub expressions::for_loop-returns-in_err-on_ok-clause-here : goal.expressions::for_loop-returns-in_err-on_ok-clause-here
+expressions::for_loop-returns-in_err-on_ok-clause-here g t c =
+    let p = err_from_is_err_and c.from_residual-in_err-on_ok.result c.from_residual-in_err-on_ok.ensures.1 in
+    here_passed c.from_residual-in_err-on_ok.result c.eval_value.result c.in_err-on_ok.field-0.0 p.0 c.args.tree.now c.args.tree.now c.eval_value.new.tree c.args.place p.1 p.2 c.in_err-on_ok.ensures.same (here-refl c.args.tree.now c.args.place) c.eval_value.ensures.here
+
+pub expressions::for_loop-returns-in_err-test-clause-here : goal.expressions::for_loop-returns-in_err-test-clause-here
+expressions::for_loop-returns-in_err-test-clause-here g t c = on_completion c.from_residual-in_err-test.result (IsHere c.args.tree.now c.eval_value.new.tree c.args.place) (here_text c.eval_value.result c.in_ok-on_ok.field-0 c.args.tree.now c.eval_value.new.tree c.args.place c.in_ok-on_ok.ensures.text c.eval_value.ensures.here)
+
+pub expressions::for_loop-returns-in_err-next-clause-here : goal.expressions::for_loop-returns-in_err-next-clause-here
+expressions::for_loop-returns-in_err-next-clause-here g t c = on_completion c.from_residual-in_err-next.result (IsHere c.args.tree.now c.eval_value.new.tree c.args.place) (here_text c.eval_value.result c.in_ok-on_ok.field-0 c.args.tree.now c.eval_value.new.tree c.args.place c.in_ok-on_ok.ensures.text c.eval_value.ensures.here)
+
+pub expressions::for_loop-returns-in_err-body-clause-here : goal.expressions::for_loop-returns-in_err-body-clause-here
+expressions::for_loop-returns-in_err-body-clause-here g t c = on_completion c.from_residual-in_err-body.result (IsHere c.args.tree.now c.eval_value.new.tree c.args.place) (here_text c.eval_value.result c.in_ok-on_ok.field-0 c.args.tree.now c.eval_value.new.tree c.args.place c.in_ok-on_ok.ensures.text c.eval_value.ensures.here)
+
+pub expressions::for_loop-returns-in_err-turn-clause-here : goal.expressions::for_loop-returns-in_err-turn-clause-here
+expressions::for_loop-returns-in_err-turn-clause-here g t c =
+    let p = err_from_is_err_and c.from_residual-in_err-turn.result c.from_residual-in_err-turn.ensures.1 in
+    here_err c.from_residual-in_err-turn.result c.in_err-turn.field-0.0 p.0 c.args.tree.now c.turns.tree c.turn.new.tree c.args.place p.1 p.2 c.turns.invariant.here c.in_err-turn.ensures.here
+
+pub expressions::for_loop-returns-then-not-branch-clause-here : goal.expressions::for_loop-returns-then-not-branch-clause-here
+expressions::for_loop-returns-then-not-branch-clause-here g t c = here-trans c.args.tree.now c.turns.tree c.turn.new.tree c.args.place c.turns.invariant.here c.in_ok-turn.ensures.here
+
+pub expressions::for_loop-returns-in_err-turns_on-clause-here : goal.expressions::for_loop-returns-in_err-turns_on-clause-here
+expressions::for_loop-returns-in_err-turns_on-clause-here g t c =
+    let p = err_from_is_err_and c.from_residual-in_err-turns_on.result c.from_residual-in_err-turns_on.ensures.1 in
+    here_passed c.from_residual-in_err-turns_on.result c.eval_value-in-turns.result c.in_err-turns_on.field-0.0 p.0 c.args.tree.now c.turn.new.tree c.eval_value-in-turns.new.tree c.args.place p.1 p.2 c.in_err-turns_on.ensures.0 (here-trans c.args.tree.now c.turns.tree c.turn.new.tree c.args.place c.turns.invariant.here c.in_ok-turn.ensures.here) c.eval_value-in-turns.ensures.here
+
+pub expressions::for_loop-returns-then-not-branch-2-clause-here : goal.expressions::for_loop-returns-then-not-branch-2-clause-here
+expressions::for_loop-returns-then-not-branch-2-clause-here g t c = here-trans c.args.tree.now c.turn.new.tree c.eval_value-in-turns.new.tree c.args.place (here-trans c.args.tree.now c.turns.tree c.turn.new.tree c.args.place c.turns.invariant.here c.in_ok-turn.ensures.here) (here_in c.eval_value-in-turns.result c.in_ok-turns_on.ensures.0 (IsHere c.turn.new.tree c.eval_value-in-turns.new.tree c.args.place) c.in_ok-turns_on.ensures.1 c.eval_value-in-turns.ensures.here)
+
+pub loops::walk_through-returns-then-is_over-clause-here : goal.loops::walk_through-returns-then-is_over-clause-here
+loops::walk_through-returns-then-is_over-clause-here g t c = c.turns.invariant.here
+
+pub loops::walk_through-returns-in_err-charge-clause-here : goal.loops::walk_through-returns-in_err-charge-clause-here
+loops::walk_through-returns-in_err-charge-clause-here g t c = on_completion c.from_residual-in_err-charge.result (IsHere c.args.tree.now c.charge.new.tree c.args.place) (here-trans c.args.tree.now c.turns.tree c.charge.new.tree c.args.place c.turns.invariant.here (level_here c.turns.tree c.charge.new.tree c.args.place c.charge.ensures.level))
+
+pub loops::walk_through-returns-in_err-set_walks-clause-here : goal.loops::walk_through-returns-in_err-set_walks-clause-here
+loops::walk_through-returns-in_err-set_walks-clause-here g t c = on_completion c.from_residual-in_err-set_walks.result (IsHere c.args.tree.now c.set_walks.new.tree c.args.place) (here-trans c.args.tree.now c.charge.new.tree c.set_walks.new.tree c.args.place (here-trans c.args.tree.now c.turns.tree c.charge.new.tree c.args.place c.turns.invariant.here (level_here c.turns.tree c.charge.new.tree c.args.place c.charge.ensures.level)) (level_here c.charge.new.tree c.set_walks.new.tree c.args.place c.set_walks.ensures.level))
+
+pub loops::walk_through-returns-in_err-goes_on-clause-here : goal.loops::walk_through-returns-in_err-goes_on-clause-here
+loops::walk_through-returns-in_err-goes_on-clause-here g t c =
+    let p = err_from_is_err_and c.from_residual-in_err-goes_on.result c.from_residual-in_err-goes_on.ensures.1 in
+    here_passed c.from_residual-in_err-goes_on.result c.eval_value.result c.in_err-goes_on.field-0.0 p.0 c.args.tree.now c.set_walks.new.tree c.eval_value.new.tree c.args.place p.1 p.2 c.in_err-goes_on.ensures.0 (here-trans c.args.tree.now c.charge.new.tree c.set_walks.new.tree c.args.place (here-trans c.args.tree.now c.turns.tree c.charge.new.tree c.args.place c.turns.invariant.here (level_here c.turns.tree c.charge.new.tree c.args.place c.charge.ensures.level)) (level_here c.charge.new.tree c.set_walks.new.tree c.args.place c.set_walks.ensures.level)) c.eval_value.ensures.here
+
+pub loops::walk_through-returns-then-not-branch-clause-here : goal.loops::walk_through-returns-then-not-branch-clause-here
+loops::walk_through-returns-then-not-branch-clause-here g t c = here-trans c.args.tree.now c.set_walks.new.tree c.eval_value.new.tree c.args.place (here-trans c.args.tree.now c.charge.new.tree c.set_walks.new.tree c.args.place (here-trans c.args.tree.now c.turns.tree c.charge.new.tree c.args.place c.turns.invariant.here (level_here c.turns.tree c.charge.new.tree c.args.place c.charge.ensures.level)) (level_here c.charge.new.tree c.set_walks.new.tree c.args.place c.set_walks.ensures.level)) (here_in c.eval_value.result c.in_ok-goes_on.ensures.0 (IsHere c.set_walks.new.tree c.eval_value.new.tree c.args.place) c.in_ok-goes_on.ensures.1 c.eval_value.ensures.here)
+
+pub loops::walk_through-returns-in_err-charge-clause-keeps : goal.loops::walk_through-returns-in_err-charge-clause-keeps
+loops::walk_through-returns-in_err-charge-clause-keeps g t c = keeps-trans c.turns.invariant.keeps (charged_keeps c.charge.ensures.level c.charge.ensures.left)
+
+pub loops::walk_through-returns-in_err-set_walks-clause-keeps : goal.loops::walk_through-returns-in_err-set_walks-clause-keeps
+loops::walk_through-returns-in_err-set_walks-clause-keeps g t c = keeps-trans c.turns.invariant.keeps (keeps-trans (charged_keeps c.charge.ensures.level c.charge.ensures.left) (level_keeps _ c.set_walks.ensures.level))
+
+pub collecting::lmap-returns-then-is_over-clause-here : goal.collecting::lmap-returns-then-is_over-clause-here
+collecting::lmap-returns-then-is_over-clause-here g t c = on_completion c.collected.result (IsHere c.args.tree.now c.turns.tree c.args.place) c.turns.invariant.here
+
+pub collecting::lmap-returns-in_err-charge-clause-here : goal.collecting::lmap-returns-in_err-charge-clause-here
+collecting::lmap-returns-in_err-charge-clause-here g t c = on_completion c.from_residual-in_err-charge.result (IsHere c.args.tree.now c.charge.new.tree c.args.place) (here-trans c.args.tree.now c.turns.tree c.charge.new.tree c.args.place c.turns.invariant.here (level_here c.turns.tree c.charge.new.tree c.args.place c.charge.ensures.level))
+
+pub collecting::lmap-returns-in_err-set_walks-clause-here : goal.collecting::lmap-returns-in_err-set_walks-clause-here
+collecting::lmap-returns-in_err-set_walks-clause-here g t c = on_completion c.from_residual-in_err-set_walks.result (IsHere c.args.tree.now c.set_walks.new.tree c.args.place) (here-trans c.args.tree.now c.charge.new.tree c.set_walks.new.tree c.args.place (here-trans c.args.tree.now c.turns.tree c.charge.new.tree c.args.place c.turns.invariant.here (level_here c.turns.tree c.charge.new.tree c.args.place c.charge.ensures.level)) (level_here c.charge.new.tree c.set_walks.new.tree c.args.place c.set_walks.ensures.level))
+
+pub collecting::lmap-returns-in_err-collects-clause-here : goal.collecting::lmap-returns-in_err-collects-clause-here
+collecting::lmap-returns-in_err-collects-clause-here g t c =
+    let p = err_from_is_err_and c.from_residual-in_err-collects.result c.from_residual-in_err-collects.ensures.1 in
+    here_err c.from_residual-in_err-collects.result c.in_err-collects.field-0.0 p.0 c.args.tree.now c.set_walks.new.tree c.eval_value-ended.new.tree c.args.place p.1 p.2 (here-trans c.args.tree.now c.charge.new.tree c.set_walks.new.tree c.args.place (here-trans c.args.tree.now c.turns.tree c.charge.new.tree c.args.place c.turns.invariant.here (level_here c.turns.tree c.charge.new.tree c.args.place c.charge.ensures.level)) (level_here c.charge.new.tree c.set_walks.new.tree c.args.place c.set_walks.ensures.level)) (here_collected c.eval_value-ended.result c.in_err-collects.field-0.0 c.turns.made c.collects.new.made (IsHere c.set_walks.new.tree c.eval_value-ended.new.tree c.args.place) c.in_err-collects.ensures c.eval_value-ended.ensures.here)
+
+pub collecting::lmap-returns-then-not-branch-clause-here : goal.collecting::lmap-returns-then-not-branch-clause-here
+collecting::lmap-returns-then-not-branch-clause-here g t c = on_completion c.collected-then-not-branch.result (IsHere c.args.tree.now c.eval_value-ended.new.tree c.args.place) (here-trans c.args.tree.now c.set_walks.new.tree c.eval_value-ended.new.tree c.args.place (here-trans c.args.tree.now c.charge.new.tree c.set_walks.new.tree c.args.place (here-trans c.args.tree.now c.turns.tree c.charge.new.tree c.args.place c.turns.invariant.here (level_here c.turns.tree c.charge.new.tree c.args.place c.charge.ensures.level)) (level_here c.charge.new.tree c.set_walks.new.tree c.args.place c.set_walks.ensures.level)) (here_in c.eval_value-ended.result c.in_ok-collects.ensures.0 (IsHere c.set_walks.new.tree c.eval_value-ended.new.tree c.args.place) c.in_ok-collects.ensures.1 c.eval_value-ended.ensures.here))
+
+pub collecting::lmap-returns-in_err-charge-clause-keeps : goal.collecting::lmap-returns-in_err-charge-clause-keeps
+collecting::lmap-returns-in_err-charge-clause-keeps g t c = keeps-trans c.turns.invariant.keeps (charged_keeps c.charge.ensures.level c.charge.ensures.left)
+
+pub collecting::lmap-returns-in_err-set_walks-clause-keeps : goal.collecting::lmap-returns-in_err-set_walks-clause-keeps
+collecting::lmap-returns-in_err-set_walks-clause-keeps g t c = keeps-trans c.turns.invariant.keeps (keeps-trans (charged_keeps c.charge.ensures.level c.charge.ensures.left) (level_keeps _ c.set_walks.ensures.level))
+
+pub loops::uplevel-returns-in_err-set_aside-clause-here : goal.loops::uplevel-returns-in_err-set_aside-clause-here
+loops::uplevel-returns-in_err-set_aside-clause-here g t c = on_completion c.from_residual-in_err-set_aside.result (IsHere c.args.tree.now c.set_aside.new.tree c.args.place) (level_here c.args.tree.now c.set_aside.new.tree c.args.place c.set_aside.ensures.level)
+
+pub loops::uplevel-returns-in_err-set_aside-clause-keeps : goal.loops::uplevel-returns-in_err-set_aside-clause-keeps
+loops::uplevel-returns-in_err-set_aside-clause-keeps g t c = level_keeps _ c.set_aside.ensures.level
+
+pub interpreters::interp-returns-in-Tree-clause-here : goal.interpreters::interp-returns-in-Tree-clause-here
+interpreters::interp-returns-in-Tree-clause-here g t c = on_completion c.call_tree.result (IsHere c.args.tree.now c.call_tree.new.tree c.args.place) c.call_tree.ensures.here
+
+pub interpreters::call_subcommand-returns-in_default-clause-here : goal.interpreters::call_subcommand-returns-in_default-clause-here
+interpreters::call_subcommand-returns-in_default-clause-here g t c = on_completion c.call_shared.result (IsHere c.args.tree.now c.call_shared.new.tree c.args.place) c.call_shared.ensures.here
+
+pub commands::call_builtin-returns-in-Rename-clause-here : goal.commands::call_builtin-returns-in-Rename-clause-here
+commands::call_builtin-returns-in-Rename-clause-here g t c = on_completion c.rename.result (IsHere c.args.tree.now c.rename.new.tree c.args.place) c.rename.ensures.here
+
+pub crossing::serve_entry-returns-in-Own-clause-here : goal.crossing::serve_entry-returns-in-Own-clause-here
+crossing::serve_entry-returns-in-Own-clause-here g t c = on_completion c.serve.result (IsHere c.args.tree.now c.serve.new.tree c.args.place) c.serve.ensures.here
+
+pub trying::handle-returns-in_default-clause-here : goal.trying::handle-returns-in_default-clause-here
+trying::handle-returns-in_default-clause-here g t c = unmoved c.released.result c.args.tree.now c.args.place
+
+pub trying::handle-returns-in_err-keep_named-clause-here : goal.trying::handle-returns-in_err-keep_named-clause-here
+trying::handle-returns-in_err-keep_named-clause-here g t c = on_completion c.from_residual-in_err-keep_named.result (IsHere c.args.tree.now c.keep_named.new.tree c.args.place) (level_here c.args.tree.now c.keep_named.new.tree c.args.place c.keep_named.ensures.level)
+
+pub trying::handle-returns-clause-here : goal.trying::handle-returns-clause-here
+trying::handle-returns-clause-here g t c = here_then c.run_handler.result c.args.tree.now c.keep_named.new.tree c.run_handler.new.tree c.args.place (level_here c.args.tree.now c.keep_named.new.tree c.args.place c.keep_named.ensures.level) c.run_handler.ensures.here
+
+pub trying::handle-returns-in_err-keep_named-clause-keeps : goal.trying::handle-returns-in_err-keep_named-clause-keeps
+trying::handle-returns-in_err-keep_named-clause-keeps g t c = level_keeps _ c.keep_named.ensures.level
+
+pub trying::handled-returns-in_err-completion-clause-here : goal.trying::handled-returns-in_err-completion-clause-here
+trying::handled-returns-in_err-completion-clause-here g t c =
+    let p = err_from_is_err_and c.from_residual-in_err-completion.result c.from_residual-in_err-completion.ensures.1 in
+    completes_err c.from_residual-in_err-completion.result c.in_err-completion.field-0.0 p.0 (IsHere c.args.tree.now c.eval_value.new.tree c.args.place) (IsHere c.args.tree.now c.eval_value.new.tree c.args.place) p.1 p.2
+    (uncaught c.eval_value.result c.caught.result c.in_err-completion.field-0.0 (IsHere c.args.tree.now c.eval_value.new.tree c.args.place) c.in_err-completion.was c.caught.ensures) (λ h. h)
+
+pub trying::handled-returns-clause-here : goal.trying::handled-returns-clause-here
+trying::handled-returns-clause-here g t c = here_then c.handle.result c.args.tree.now c.eval_value.new.tree c.handle.new.tree c.args.place (here_caught c.eval_value.result c.caught.result c.in_ok-completion.completion c.args.tree.now c.eval_value.new.tree c.args.place c.in_ok-completion.was c.caught.ensures c.eval_value.ensures.here) c.handle.ensures.here
+
+pub trying::try_script-returns-in_err-completion-clause-here : goal.trying::try_script-returns-in_err-completion-clause-here
+trying::try_script-returns-in_err-completion-clause-here g t c =
+    let p = err_from_is_err_and c.from_residual-in_err-completion.result c.from_residual-in_err-completion.ensures.1 in
+    completes_err c.from_residual-in_err-completion.result c.in_err-completion.field-0.0 p.0 (IsHere c.args.tree.now c.handled-ended.new.tree c.args.place) (IsHere c.args.tree.now c.handled-ended.new.tree c.args.place) p.1 p.2
+    (uncaught c.handled-ended.result c.caught.result c.in_err-completion.field-0.0 (IsHere c.args.tree.now c.handled-ended.new.tree c.args.place) c.in_err-completion.was c.caught.ensures) (λ h. h)
+
+pub trying::try_script-returns-in_err-script-clause-here : goal.trying::try_script-returns-in_err-script-clause-here
+trying::try_script-returns-in_err-script-clause-here g t c = on_completion c.from_residual-in_err-script.result (IsHere c.args.tree.now c.handled-ended.new.tree c.args.place) (here_caught c.handled-ended.result c.caught.result c.in_ok-completion.completion c.args.tree.now c.handled-ended.new.tree c.args.place c.in_ok-completion.was c.caught.ensures c.handled-ended.ensures.here)
+
+pub trying::try_script-returns-in_err-on_ok-clause-here : goal.trying::try_script-returns-in_err-on_ok-clause-here
+trying::try_script-returns-in_err-on_ok-clause-here g t c =
+    let p = err_from_is_err_and c.from_residual-in_err-on_ok.result c.from_residual-in_err-on_ok.ensures.1 in
+    here_passed c.from_residual-in_err-on_ok.result c.eval_value.result c.in_err-on_ok.field-0.0 p.0 c.args.tree.now c.handled-ended.new.tree c.eval_value.new.tree c.args.place p.1 p.2 c.in_err-on_ok.ensures.same (here_caught c.handled-ended.result c.caught.result c.in_ok-completion.completion c.args.tree.now c.handled-ended.new.tree c.args.place c.in_ok-completion.was c.caught.ensures c.handled-ended.ensures.here) c.eval_value.ensures.here
+
+pub trying::try_script-returns-clause-here : goal.trying::try_script-returns-clause-here
+trying::try_script-returns-clause-here g t c = on_completion c.released.result (IsHere c.args.tree.now c.eval_value.new.tree c.args.place) (here-trans c.args.tree.now c.handled-ended.new.tree c.eval_value.new.tree c.args.place (here_caught c.handled-ended.result c.caught.result c.in_ok-completion.completion c.args.tree.now c.handled-ended.new.tree c.args.place c.in_ok-completion.was c.caught.ensures c.handled-ended.ensures.here) (here_text c.eval_value.result c.in_ok-on_ok.field-0 c.handled-ended.new.tree c.eval_value.new.tree c.args.place c.in_ok-on_ok.ensures.text c.eval_value.ensures.here))
+
+pub hosting::ask-returns-in_err-reply-clause-here : goal.hosting::ask-returns-in_err-reply-clause-here
+hosting::ask-returns-in_err-reply-clause-here g t c =
+    let p = err_from_is_err_and c.from_residual-in_err-reply.result c.from_residual-in_err-reply.ensures.1 in
+    here_err c.from_residual-in_err-reply.result c.in_err-reply.field-0.0 p.0 c.args.tree.now c.args.tree.now c.wait.new.tree c.args.place p.1 p.2 (here-refl c.args.tree.now c.args.place) c.in_err-reply.ensures.here
+
+pub hosting::ask-returns-clause-here : goal.hosting::ask-returns-clause-here
+hosting::ask-returns-clause-here g t c = c.in_ok-reply.ensures.here
+
+pub hosting::make_call-returns-in_err-reply-clause-here : goal.hosting::make_call-returns-in_err-reply-clause-here
+hosting::make_call-returns-in_err-reply-clause-here g t c =
+    let p = err_from_is_err_and c.from_residual-in_err-reply.result c.from_residual-in_err-reply.ensures.1 in
+    here_err c.from_residual-in_err-reply.result c.in_err-reply.field-0.0 p.0 c.args.tree.now c.args.tree.now c.ask.new.tree c.args.place p.1 p.2 (here-refl c.args.tree.now c.args.place) c.in_err-reply.ensures.here
+
+pub hosting::make_call-returns-clause-here : goal.hosting::make_call-returns-clause-here
+hosting::make_call-returns-clause-here g t c = on_completion c.answer.result (IsHere c.args.tree.now c.answer.new.tree c.args.place) (here-trans c.args.tree.now c.ask.new.tree c.answer.new.tree c.args.place c.in_ok-reply.ensures.here (level_here c.ask.new.tree c.answer.new.tree c.args.place c.answer.ensures.level))
+
+pub sourcing::source_file-returns-in_err-script-clause-here : goal.sourcing::source_file-returns-in_err-script-clause-here
+sourcing::source_file-returns-in_err-script-clause-here g t c =
+    let p = err_from_is_err_and c.from_residual.result c.from_residual.ensures.1 in
+    here_err c.from_residual.result c.in_err-script.field-0.0 p.0 c.args.tree.now c.args.tree.now c.read_file.new.tree c.args.place p.1 p.2 (here-refl c.args.tree.now c.args.place) c.in_err-script.ensures.here
+
+pub sourcing::source_file-returns-clause-here : goal.sourcing::source_file-returns-clause-here
+sourcing::source_file-returns-clause-here g t c = here_then c.eval_file.result c.args.tree.now c.read_file.new.tree c.eval_file.new.tree c.args.place c.in_ok-script.ensures.here c.eval_file.ensures.here
+
+pub sourcing::read_file-returns-in_err-reply-clause-here : goal.sourcing::read_file-returns-in_err-reply-clause-here
+sourcing::read_file-returns-in_err-reply-clause-here g t c =
+    let p = err_from_is_err_and c.from_residual-in_err-reply.result c.from_residual-in_err-reply.ensures.1 in
+    here_err c.from_residual-in_err-reply.result c.in_err-reply.field-0.0 p.0 c.args.tree.now c.args.tree.now c.ask.new.tree c.args.place p.1 p.2 (here-refl c.args.tree.now c.args.place) c.in_err-reply.ensures.here
+
+pub sourcing::read_file-returns-in_err-channel-clause-here : goal.sourcing::read_file-returns-in_err-channel-clause-here
+sourcing::read_file-returns-in_err-channel-clause-here g t c = on_completion c.from_residual-in_err-channel.result (IsHere c.args.tree.now c.ask.new.tree c.args.place) c.in_ok-reply.ensures.here
+
+pub sourcing::read_file-returns-clause-here : goal.sourcing::read_file-returns-clause-here
+sourcing::read_file-returns-clause-here g t c = here_then c.read_channel.result c.args.tree.now c.ask.new.tree c.read_channel.new.tree c.args.place c.in_ok-reply.ensures.here c.read_channel.ensures.here
+
+pub sourcing::read_channel-returns-in_err-read-clause-here : goal.sourcing::read_channel-returns-in_err-read-clause-here
+sourcing::read_channel-returns-in_err-read-clause-here g t c =
+    let p = err_from_is_err_and c.from_residual-in_err-read.result c.from_residual-in_err-read.ensures.1 in
+    here_err c.from_residual-in_err-read.result c.in_err-read.field-0.0 p.0 c.args.tree.now c.args.tree.now c.ask.new.tree c.args.place p.1 p.2 (here-refl c.args.tree.now c.args.place) c.in_err-read.ensures.here
+
+pub sourcing::read_channel-returns-in_err-closed-clause-here : goal.sourcing::read_channel-returns-in_err-closed-clause-here
+sourcing::read_channel-returns-in_err-closed-clause-here g t c =
+    let p = err_from_is_err_and c.from_residual-in_err-closed.result c.from_residual-in_err-closed.ensures.1 in
+    here_err c.from_residual-in_err-closed.result c.in_err-closed.field-0.0 p.0 c.args.tree.now c.ask.new.tree c.ask-2.new.tree c.args.place p.1 p.2 c.in_ok-read.ensures.here c.in_err-closed.ensures.here
+
+pub sourcing::read_channel-returns-clause-here : goal.sourcing::read_channel-returns-clause-here
+sourcing::read_channel-returns-clause-here g t c = on_completion c.script_of_file.result (IsHere c.args.tree.now c.ask-2.new.tree c.args.place) (here-trans c.args.tree.now c.ask.new.tree c.ask-2.new.tree c.args.place c.in_ok-read.ensures.here c.in_ok-closed.ensures.here)
+
+pub sourcing::eval_file-returns-clause-here : goal.sourcing::eval_file-returns-clause-here
+sourcing::eval_file-returns-clause-here g t c = here_left_file c.eval_value-ended.result c.left_file.result (IsHere c.args.tree.now c.eval_value-ended.new.tree c.args.place) c.left_file.ensures c.eval_value-ended.ensures.here
+
+pub children::child-returns-in_err-name-clause-here : goal.children::child-returns-in_err-name-clause-here
+children::child-returns-in_err-name-clause-here g t c = unmoved c.from_residual.result c.args.tree.now c.args.place
+
+pub children::child-returns-in_err-text-clause-here : goal.children::child-returns-in_err-text-clause-here
+children::child-returns-in_err-text-clause-here g t c = unmoved c.from_residual-in_err-text.result c.args.tree.now c.args.place
+
+pub collecting::lmap-returns-in_err-body-clause-here : goal.collecting::lmap-returns-in_err-body-clause-here
+collecting::lmap-returns-in_err-body-clause-here g t c = unmoved c.from_residual-in_err-body.result c.args.tree.now c.args.place
+
+pub collecting::lmap-returns-in_err-made-clause-here : goal.collecting::lmap-returns-in_err-made-clause-here
+collecting::lmap-returns-in_err-made-clause-here g t c = unmoved c.from_residual-in_err-made.result c.args.tree.now c.args.place
+
+pub collecting::lmap-returns-in_err-walks-clause-here : goal.collecting::lmap-returns-in_err-walks-clause-here
+collecting::lmap-returns-in_err-walks-clause-here g t c = unmoved c.from_residual.result c.args.tree.now c.args.place
+
+pub commands::call-returns-in_err-command-clause-here : goal.commands::call-returns-in_err-command-clause-here
+commands::call-returns-in_err-command-clause-here g t c = unmoved c.from_residual.result c.args.tree.now c.args.place
+
+pub commands::call_hidden-returns-in_err-command-clause-here : goal.commands::call_hidden-returns-in_err-command-clause-here
+commands::call_hidden-returns-in_err-command-clause-here g t c = unmoved c.from_residual.result c.args.tree.now c.args.place
+
+pub commands::call_procedure-returns-in_err-bindings-clause-here : goal.commands::call_procedure-returns-in_err-bindings-clause-here
+commands::call_procedure-returns-in_err-bindings-clause-here g t c = unmoved c.from_residual.result c.args.tree.now c.args.place
+
+pub commands::call_procedure-returns-in_err-body-clause-here : goal.commands::call_procedure-returns-in_err-body-clause-here
+commands::call_procedure-returns-in_err-body-clause-here g t c = unmoved c.from_residual-in_err-body.result c.args.tree.now c.args.place
+
+pub commands::call_procedure-returns-in_err-words-clause-here : goal.commands::call_procedure-returns-in_err-words-clause-here
+commands::call_procedure-returns-in_err-words-clause-here g t c = unmoved c.from_residual-in_err-words.result c.args.tree.now c.args.place
+
+pub control::catch-returns-in_err-script-clause-here : goal.control::catch-returns-in_err-script-clause-here
+control::catch-returns-in_err-script-clause-here g t c = unmoved c.from_residual.result c.args.tree.now c.args.place
+
+pub control::eval-returns-in_err-script-clause-here : goal.control::eval-returns-in_err-script-clause-here
+control::eval-returns-in_err-script-clause-here g t c = unmoved c.from_residual.result c.args.tree.now c.args.place
+
+pub crossing::call_alias-returns-in_err-entry-clause-here : goal.crossing::call_alias-returns-in_err-entry-clause-here
+crossing::call_alias-returns-in_err-entry-clause-here g t c = unmoved c.from_residual.result c.args.tree.now c.args.place
+
+pub crossing::serve_call-returns-in_err-words-clause-here : goal.crossing::serve_call-returns-in_err-words-clause-here
+crossing::serve_call-returns-in_err-words-clause-here g t c = unmoved c.from_residual.result c.args.tree.now c.args.place
+
+pub crossing::serve_hidden-returns-in_err-words-clause-here : goal.crossing::serve_hidden-returns-in_err-words-clause-here
+crossing::serve_hidden-returns-in_err-words-clause-here g t c = unmoved c.from_residual.result c.args.tree.now c.args.place
+
+pub evaluation::eval_command-returns-in_err-words-clause-here : goal.evaluation::eval_command-returns-in_err-words-clause-here
+evaluation::eval_command-returns-in_err-words-clause-here g t c = unmoved c.from_residual.result c.args.tree.now c.args.place
+
+pub evaluation::eval_lone_part-returns-in_err-clone-in-Literal-clause-here : goal.evaluation::eval_lone_part-returns-in_err-clone-in-Literal-clause-here
+evaluation::eval_lone_part-returns-in_err-clone-in-Literal-clause-here g t c = unmoved c.from_residual.result c.args.tree.now c.args.place
+
+pub evaluation::eval_part-returns-in_err-value-in-Variable-clause-here : goal.evaluation::eval_part-returns-in_err-value-in-Variable-clause-here
+evaluation::eval_part-returns-in_err-value-in-Variable-clause-here g t c = unmoved c.from_residual.result c.args.tree.now c.args.place
+
+pub evaluation::eval_text-returns-in_err-script-clause-here : goal.evaluation::eval_text-returns-in_err-script-clause-here
+evaluation::eval_text-returns-in_err-script-clause-here g t c = unmoved c.from_residual.result c.args.tree.now c.args.place
+
+pub evaluation::eval_value-returns-in_err-script-clause-here : goal.evaluation::eval_value-returns-in_err-script-clause-here
+evaluation::eval_value-returns-in_err-script-clause-here g t c = unmoved c.from_residual.result c.args.tree.now c.args.place
+
+pub expressions::expr-returns-in_err-kept-clause-here : goal.expressions::expr-returns-in_err-kept-clause-here
+expressions::expr-returns-in_err-kept-clause-here g t c = unmoved c.from_residual-in_err-kept.result c.args.tree.now c.args.place
+
+pub expressions::expr-returns-in_err-text-clause-here : goal.expressions::expr-returns-in_err-text-clause-here
+expressions::expr-returns-in_err-text-clause-here g t c = unmoved c.from_residual.result c.args.tree.now c.args.place
+
+pub expressions::for_loop-returns-in_err-start-clause-here : goal.expressions::for_loop-returns-in_err-start-clause-here
+expressions::for_loop-returns-in_err-start-clause-here g t c = unmoved c.from_residual.result c.args.tree.now c.args.place
+
+pub expressions::if_first-returns-in_err-branches-clause-here : goal.expressions::if_first-returns-in_err-branches-clause-here
+expressions::if_first-returns-in_err-branches-clause-here g t c = unmoved c.from_residual.result c.args.tree.now c.args.place
+
+pub expressions::while_loop-returns-in_err-body-clause-here : goal.expressions::while_loop-returns-in_err-body-clause-here
+expressions::while_loop-returns-in_err-body-clause-here g t c = unmoved c.from_residual-in_err-body.result c.args.tree.now c.args.place
+
+pub expressions::while_loop-returns-in_err-test-clause-here : goal.expressions::while_loop-returns-in_err-test-clause-here
+expressions::while_loop-returns-in_err-test-clause-here g t c = unmoved c.from_residual.result c.args.tree.now c.args.place
+
+pub hosting::ask-returns-in_err-notify-clause-here : goal.hosting::ask-returns-in_err-notify-clause-here
+hosting::ask-returns-in_err-notify-clause-here g t c = unmoved c.from_residual.result c.args.tree.now c.args.place
+
+pub hosting::call_host-returns-in_err-call-clause-here : goal.hosting::call_host-returns-in_err-call-clause-here
+hosting::call_host-returns-in_err-call-clause-here g t c = unmoved c.from_residual.result c.args.tree.now c.args.place
+
+pub hosting::make_call-returns-in_err-request-clause-here : goal.hosting::make_call-returns-in_err-request-clause-here
+hosting::make_call-returns-in_err-request-clause-here g t c = unmoved c.from_residual.result c.args.tree.now c.args.place
+
+pub hosting::put_line-returns-in_err-line-clause-here : goal.hosting::put_line-returns-in_err-line-clause-here
+hosting::put_line-returns-in_err-line-clause-here g t c = unmoved c.from_residual.result c.args.tree.now c.args.place
+
+pub hosting::puts-returns-in_err-stdout-in-len1-clause-here : goal.hosting::puts-returns-in_err-stdout-in-len1-clause-here
+hosting::puts-returns-in_err-stdout-in-len1-clause-here g t c = unmoved c.from_residual.result c.args.tree.now c.args.place
+
+pub hosting::puts-returns-in_err-stdout-in-len2-clause-here : goal.hosting::puts-returns-in_err-stdout-in-len2-clause-here
+hosting::puts-returns-in_err-stdout-in-len2-clause-here g t c = unmoved c.from_residual-in_err-stdout-in-len2.result c.args.tree.now c.args.place
+
+pub hosting::puts-returns-in_err-text-in-len3-clause-here : goal.hosting::puts-returns-in_err-text-in-len3-clause-here
+hosting::puts-returns-in_err-text-in-len3-clause-here g t c = unmoved c.from_residual-in_err-text-in-len3.result c.args.tree.now c.args.place
+
+pub hosting::puts-returns-in_err-text-in-len3-2-clause-here : goal.hosting::puts-returns-in_err-text-in-len3-2-clause-here
+hosting::puts-returns-in_err-text-in-len3-2-clause-here g t c = unmoved c.from_residual-in_err-text-in-len3-2.result c.args.tree.now c.args.place
+
+pub hosting::puts-returns-in_err-word-in-len2-clause-here : goal.hosting::puts-returns-in_err-word-in-len2-clause-here
+hosting::puts-returns-in_err-word-in-len2-clause-here g t c = unmoved c.from_residual-in_err-word-in-len2.result c.args.tree.now c.args.place
+
+pub hosting::write-returns-in_err-clone-clause-here : goal.hosting::write-returns-in_err-clone-clause-here
+hosting::write-returns-in_err-clone-clause-here g t c = unmoved c.from_residual.result c.args.tree.now c.args.place
+
+pub hosting::write-returns-in_err-text-clause-here : goal.hosting::write-returns-in_err-text-clause-here
+hosting::write-returns-in_err-text-clause-here g t c = unmoved c.from_residual-in_err-text.result c.args.tree.now c.args.place
+
+pub interpreters::eval_in-returns-in_err-path-clause-here : goal.interpreters::eval_in-returns-in_err-path-clause-here
+interpreters::eval_in-returns-in_err-path-clause-here g t c = unmoved c.from_residual.result c.args.tree.now c.args.place
+
+pub interpreters::eval_in-returns-in_err-script-clause-here : goal.interpreters::eval_in-returns-in_err-script-clause-here
+interpreters::eval_in-returns-in_err-script-clause-here g t c = unmoved c.from_residual-in_err-script.result c.args.tree.now c.args.place
+
+pub interpreters::interp-returns-in_err-name-clause-here : goal.interpreters::interp-returns-in_err-name-clause-here
+interpreters::interp-returns-in_err-name-clause-here g t c = unmoved c.from_residual.result c.args.tree.now c.args.place
+
+pub interpreters::invoke_hidden-returns-in_err-call-clause-here : goal.interpreters::invoke_hidden-returns-in_err-call-clause-here
+interpreters::invoke_hidden-returns-in_err-call-clause-here g t c = unmoved c.from_residual.result c.args.tree.now c.args.place
+
+pub interpreters::invoke_hidden-returns-in_err-path-clause-here : goal.interpreters::invoke_hidden-returns-in_err-path-clause-here
+interpreters::invoke_hidden-returns-in_err-path-clause-here g t c = unmoved c.from_residual-in_err-path.result c.args.tree.now c.args.place
+
+pub loops::dict_for-returns-in_err-walks-clause-here : goal.loops::dict_for-returns-in_err-walks-clause-here
+loops::dict_for-returns-in_err-walks-clause-here g t c = unmoved c.from_residual.result c.args.tree.now c.args.place
+
+pub loops::foreach-returns-in_err-walks-clause-here : goal.loops::foreach-returns-in_err-walks-clause-here
+loops::foreach-returns-in_err-walks-clause-here g t c = unmoved c.from_residual.result c.args.tree.now c.args.place
+
+pub loops::uplevel-returns-in_err-level-clause-here : goal.loops::uplevel-returns-in_err-level-clause-here
+loops::uplevel-returns-in_err-level-clause-here g t c = unmoved c.from_residual.result c.args.tree.now c.args.place
+
+pub loops::uplevel-returns-in_err-script-clause-here : goal.loops::uplevel-returns-in_err-script-clause-here
+loops::uplevel-returns-in_err-script-clause-here g t c = unmoved c.from_residual-in_err-script.result c.args.tree.now c.args.place
+
+pub loops::walk_through-returns-in_err-script-clause-here : goal.loops::walk_through-returns-in_err-script-clause-here
+loops::walk_through-returns-in_err-script-clause-here g t c = unmoved c.from_residual.result c.args.tree.now c.args.place
+
+pub sourcing::read_channel-returns-in_err-clone-clause-here : goal.sourcing::read_channel-returns-in_err-clone-clause-here
+sourcing::read_channel-returns-in_err-clone-clause-here g t c = unmoved c.from_residual.result c.args.tree.now c.args.place
+
+pub sourcing::read_channel-returns-in_err-clone-2-clause-here : goal.sourcing::read_channel-returns-in_err-clone-2-clause-here
+sourcing::read_channel-returns-in_err-clone-2-clause-here g t c = unmoved c.from_residual-in_err-clone-2.result c.args.tree.now c.args.place
+
+pub sourcing::read_file-returns-in_err-clone-clause-here : goal.sourcing::read_file-returns-in_err-clone-clause-here
+sourcing::read_file-returns-in_err-clone-clause-here g t c = unmoved c.from_residual.result c.args.tree.now c.args.place
+
+pub sourcing::source-returns-in_err-text-in-len1-clause-here : goal.sourcing::source-returns-in_err-text-in-len1-clause-here
+sourcing::source-returns-in_err-text-in-len1-clause-here g t c = unmoved c.from_residual.result c.args.tree.now c.args.place
+
+pub switching::switch-returns-in_err-body-clause-here : goal.switching::switch-returns-in_err-body-clause-here
+switching::switch-returns-in_err-body-clause-here g t c = unmoved c.from_residual.result c.args.tree.now c.args.place
+
+pub trying::handle-returns-in_err-names-clause-here : goal.trying::handle-returns-in_err-names-clause-here
+trying::handle-returns-in_err-names-clause-here g t c = unmoved c.from_residual.result c.args.tree.now c.args.place
+
+pub trying::handled-returns-in_err-script-clause-here : goal.trying::handled-returns-in_err-script-clause-here
+trying::handled-returns-in_err-script-clause-here g t c = unmoved c.from_residual.result c.args.tree.now c.args.place
+
+pub trying::run_handler-returns-in_err-own-clause-here : goal.trying::run_handler-returns-in_err-own-clause-here
+trying::run_handler-returns-in_err-own-clause-here g t c = unmoved c.from_residual.result c.args.tree.now c.args.place
+
+pub trying::try_script-returns-in_err-tried-clause-here : goal.trying::try_script-returns-in_err-tried-clause-here
+trying::try_script-returns-in_err-tried-clause-here g t c = unmoved c.from_residual.result c.args.tree.now c.args.place
+
+pub crossing::call_there-returns-in_err-notify-clause-here : goal.crossing::call_there-returns-in_err-notify-clause-here
+crossing::call_there-returns-in_err-notify-clause-here g t c = unmoved c.from_residual.result c.args.tree.now c.args.caller
+
+pub crossing::call_there-returns-clause-here : goal.crossing::call_there-returns-clause-here
+crossing::call_there-returns-clause-here g t c =
+    OnCompletion-more c.return_to_caller.result (IsStanding c.serve_entry-ended.new.tree c.args.caller) (IsHere c.args.tree.now c.serve_entry-ended.new.tree c.args.caller)
+    (λ h. called_here c.args.tree.now c.serve_entry-ended.new.tree c.args.caller c.serve_entry-ended.ensures.keeps.steady c.requires.running h) c.return_to_caller.ensures.stands
+
+pub crossing::call_past_top-returns-in_err-notify-clause-here : goal.crossing::call_past_top-returns-in_err-notify-clause-here
+crossing::call_past_top-returns-in_err-notify-clause-here g t c = unmoved c.from_residual.result c.args.tree.now c.args.caller
+
+pub crossing::call_past_top-returns-in_err-value-clause-here : goal.crossing::call_past_top-returns-in_err-value-clause-here
+crossing::call_past_top-returns-in_err-value-clause-here g t c =
+    let p = err_from_is_err_and c.from_residual-in_err-value.result c.from_residual-in_err-value.ensures.1 in
+    here_err c.from_residual-in_err-value.result c.in_err-value.field-0.0 p.0 c.args.tree.now c.args.tree.now c.wait.new.tree c.args.caller p.1 p.2 (here-refl c.args.tree.now c.args.caller) c.in_err-value.ensures.here
+
+pub crossing::call_past_top-returns-in-Missed-clause-runs : goal.crossing::call_past_top-returns-in-Missed-clause-runs
+crossing::call_past_top-returns-in-Missed-clause-runs g t c =
+    Awaited.calls_out_missed (ways g.O.Outside.goes g.O.Outside.loses) c.args.tree.now c.wait.new.tree c.args.outside.now c.notify.new.self c.wait.new.outside c.args.caller (Some c.args.up) c.args.down.now (whole_entry c.args.entry) (failing (lost_alias c.args.word.now))
+    (λ q at e. c.in_ok-notify.ensures.told q at e) c.requires.above c.lost_call.result c.lost_call.ensures
+    (subst (SaysOn (ways g.O.Outside.goes g.O.Outside.loses) c.args.tree.now c.notify.new.self c.args.caller (Some c.args.up) (whole_entry c.args.entry) c.wait.new.tree c.wait.new.outside) c.in-Missed.is c.in_ok-value.ensures.runs)
+
+pub crossing::call_past_top-returns-in-Completed-clause-here : goal.crossing::call_past_top-returns-in-Completed-clause-here
+crossing::call_past_top-returns-in-Completed-clause-here g t c = c.in_ok-value.ensures.here
+
+pub crossing::call_past_top-returns-in-Missed-clause-here : goal.crossing::call_past_top-returns-in-Missed-clause-here
+crossing::call_past_top-returns-in-Missed-clause-here g t c = Completes-all c.lost_call.result (IsHere c.args.tree.now c.wait.new.tree c.args.caller) c.in_ok-value.ensures.here
+
+pub crossing::call_alias-returns-in-Missing-clause-here : goal.crossing::call_alias-returns-in-Missing-clause-here
+crossing::call_alias-returns-in-Missing-clause-here g t c = unmoved c.miss_alias.result c.args.tree.now c.args.place
+
+pub crossing::ask_below-returns-in-Missing-clause-here : goal.crossing::ask_below-returns-in-Missing-clause-here
+crossing::ask_below-returns-in-Missing-clause-here g t c = unmoved c.find_nobody.result c.args.tree.now c.args.place
+
+pub commands::call_procedure-returns-in_default-clause-here : goal.commands::call_procedure-returns-in_default-clause-here
+commands::call_procedure-returns-in_default-clause-here g t c = Completes-all c.wrong_form.result (IsHere c.args.tree.now c.args.tree.now c.args.place) (here-refl c.args.tree.now c.args.place)
+
+pub control::catch-returns-in_default-clause-here : goal.control::catch-returns-in_default-clause-here
+control::catch-returns-in_default-clause-here g t c = Completes-all c.wrong_args.result (IsHere c.args.tree.now c.args.tree.now c.args.place) (here-refl c.args.tree.now c.args.place)
+
+pub control::catch-returns-then-names-gt2-clause-here : goal.control::catch-returns-then-names-gt2-clause-here
+control::catch-returns-then-names-gt2-clause-here g t c = Completes-all c.wrong_args-then-names-gt2.result (IsHere c.args.tree.now c.args.tree.now c.args.place) (here-refl c.args.tree.now c.args.place)
+
+pub control::eval-returns-then-is_empty-clause-here : goal.control::eval-returns-then-is_empty-clause-here
+control::eval-returns-then-is_empty-clause-here g t c = Completes-all c.wrong_args.result (IsHere c.args.tree.now c.args.tree.now c.args.place) (here-refl c.args.tree.now c.args.place)
+
+pub expressions::expr-returns-then-is_empty-clause-here : goal.expressions::expr-returns-then-is_empty-clause-here
+expressions::expr-returns-then-is_empty-clause-here g t c = Completes-all c.wrong_args.result (IsHere c.args.tree.now c.args.tree.now c.args.place) (here-refl c.args.tree.now c.args.place)
+
+pub expressions::if_first-returns-in_default-clause-here : goal.expressions::if_first-returns-in_default-clause-here
+expressions::if_first-returns-in_default-clause-here g t c = Completes-all c.wrong_args.result (IsHere c.args.tree.now c.args.tree.now c.args.place) (here-refl c.args.tree.now c.args.place)
+
+pub expressions::while_loop-returns-in_default-clause-here : goal.expressions::while_loop-returns-in_default-clause-here
+expressions::while_loop-returns-in_default-clause-here g t c = Completes-all c.wrong_args.result (IsHere c.args.tree.now c.args.tree.now c.args.place) (here-refl c.args.tree.now c.args.place)
+
+pub expressions::for_loop-returns-in_default-clause-here : goal.expressions::for_loop-returns-in_default-clause-here
+expressions::for_loop-returns-in_default-clause-here g t c = Completes-all c.wrong_args.result (IsHere c.args.tree.now c.args.tree.now c.args.place) (here-refl c.args.tree.now c.args.place)
+
+pub loops::foreach-returns-in_default-clause-here : goal.loops::foreach-returns-in_default-clause-here
+loops::foreach-returns-in_default-clause-here g t c = Completes-all c.wrong_args.result (IsHere c.args.tree.now c.args.tree.now c.args.place) (here-refl c.args.tree.now c.args.place)
+
+pub collecting::lmap-returns-in_default-clause-here : goal.collecting::lmap-returns-in_default-clause-here
+collecting::lmap-returns-in_default-clause-here g t c = Completes-all c.wrong_args.result (IsHere c.args.tree.now c.args.tree.now c.args.place) (here-refl c.args.tree.now c.args.place)
+
+pub interpreters::interp-returns-in_default-clause-here : goal.interpreters::interp-returns-in_default-clause-here
+interpreters::interp-returns-in_default-clause-here g t c = Completes-all c.wrong_args.result (IsHere c.args.tree.now c.args.tree.now c.args.place) (here-refl c.args.tree.now c.args.place)
+
+pub interpreters::interp-returns-in_default-interp_subcommand-clause-here : goal.interpreters::interp-returns-in_default-interp_subcommand-clause-here
+interpreters::interp-returns-in_default-interp_subcommand-clause-here g t c = Completes-all c.unknown_subcommand.result (IsHere c.args.tree.now c.args.tree.now c.args.place) (here-refl c.args.tree.now c.args.place)
+
+pub interpreters::eval_in-returns-then-is_empty-clause-here : goal.interpreters::eval_in-returns-then-is_empty-clause-here
+interpreters::eval_in-returns-then-is_empty-clause-here g t c = Completes-all c.wrong_words.result (IsHere c.args.tree.now c.args.tree.now c.args.place) (here-refl c.args.tree.now c.args.place)
+
+pub children::child-returns-in_default-clause-here : goal.children::child-returns-in_default-clause-here
+children::child-returns-in_default-clause-here g t c = Completes-all c.wrong_child_args.result (IsHere c.args.tree.now c.args.tree.now c.args.place) (here-refl c.args.tree.now c.args.place)
+
+pub children::child-returns-in_default-child_subcommand-clause-here : goal.children::child-returns-in_default-child_subcommand-clause-here
+children::child-returns-in_default-child_subcommand-clause-here g t c = Completes-all c.unknown_subcommand.result (IsHere c.args.tree.now c.args.tree.now c.args.place) (here-refl c.args.tree.now c.args.place)
+
+pub trying::try_script-returns-in_default-clause-here : goal.trying::try_script-returns-in_default-clause-here
+trying::try_script-returns-in_default-clause-here g t c = Completes-all c.wrong_args.result (IsHere c.args.tree.now c.args.tree.now c.args.place) (here-refl c.args.tree.now c.args.place)
+
+pub hosting::put_line-returns-in-Err-TooLong-clause-here : goal.hosting::put_line-returns-in-Err-TooLong-clause-here
+hosting::put_line-returns-in-Err-TooLong-clause-here g t c = Completes-all c.too_long.result (IsHere c.args.tree.now c.args.tree.now c.args.place) (here-refl c.args.tree.now c.args.place)
+
+pub hosting::puts-returns-else-eq-2-clause-here : goal.hosting::puts-returns-else-eq-2-clause-here
+hosting::puts-returns-else-eq-2-clause-here g t c = Completes-all c.wrong_args.result (IsHere c.args.tree.now c.args.tree.now c.args.place) (here-refl c.args.tree.now c.args.place)
+
+pub hosting::puts-returns-in_default-clause-here : goal.hosting::puts-returns-in_default-clause-here
+hosting::puts-returns-in_default-clause-here g t c = Completes-all c.wrong_args-in_default.result (IsHere c.args.tree.now c.args.tree.now c.args.place) (here-refl c.args.tree.now c.args.place)
+
+pub sourcing::source-returns-in_default-clause-here : goal.sourcing::source-returns-in_default-clause-here
+sourcing::source-returns-in_default-clause-here g t c = Completes-all c.wrong_args.result (IsHere c.args.tree.now c.args.tree.now c.args.place) (here-refl c.args.tree.now c.args.place)
+
+pub crossing::serve_entry-returns-clause-here : goal.crossing::serve_entry-returns-clause-here
+crossing::serve_entry-returns-clause-here g t c = Completes-all c.denied.result (IsHere c.args.tree.now c.args.tree.now c.args.place) (here-refl c.args.tree.now c.args.place)
+
+pub commands::call-returns-in_default-clause-here : goal.commands::call-returns-in_default-clause-here
+commands::call-returns-in_default-clause-here g t c = here-refl c.args.tree.now c.args.place
+
+pub commands::call_hidden-returns-in_default-clause-here : goal.commands::call_hidden-returns-in_default-clause-here
+commands::call_hidden-returns-in_default-clause-here g t c = here-refl c.args.tree.now c.args.place
+
+pub evaluation::eval_lone_part-returns-in-Element-clause-here : goal.evaluation::eval_lone_part-returns-in-Element-clause-here
+evaluation::eval_lone_part-returns-in-Element-clause-here g t c = here-refl c.args.tree.now c.args.place
+
+pub evaluation::eval_lone_part-returns-in-EndElement-clause-here : goal.evaluation::eval_lone_part-returns-in-EndElement-clause-here
+evaluation::eval_lone_part-returns-in-EndElement-clause-here g t c = here-refl c.args.tree.now c.args.place
+
+pub trying::run_handler-returns-in_default-clause-here : goal.trying::run_handler-returns-in_default-clause-here
+trying::run_handler-returns-in_default-clause-here g t c = here-refl c.args.tree.now c.args.place
+
+pub switching::switch-returns-in_default-clause-here : goal.switching::switch-returns-in_default-clause-here
+switching::switch-returns-in_default-clause-here g t c = here-refl c.args.tree.now c.args.place
+
 -- # Calls that pass the top of the tree, and what is handed in
 
-pub waiting::enter-returns-in-Some-clause-runs : goal.waiting::enter-returns-in-Some-clause-runs
-waiting::enter-returns-in-Some-clause-runs g t c =
-    Awaited.enters_there (ways g.O.Outside.goes g.O.Outside.loses) c.args.tree.now c.serve_entry.new.tree c.args.outside.now c.serve_entry.new.outside c.in-Some.place c.args.target.now (whole_entry c.args.entry) c.serve_entry.result
-    c.in-Some.ensures.there c.serve_entry.ensures.runs
+pub waiting::enter-serve_entry-requires : goal.waiting::enter-serve_entry-requires
+waiting::enter-serve_entry-requires g t c κs within = (search rules, (search rules, (c.args.target.now, c.requires)))
 
-pub waiting::enter-returns-in-None-clause-runs : goal.waiting::enter-returns-in-None-clause-runs
-waiting::enter-returns-in-None-clause-runs g t c =
-    Awaited.enters_nobody (ways g.O.Outside.goes g.O.Outside.loses) c.args.tree.now c.args.outside.now c.args.target.now (whole_entry c.args.entry) c.no_interpreter.result c.in-None.ensures.missing c.no_interpreter.ensures
+pub waiting::enter-returns-clause-runs : goal.waiting::enter-returns-clause-runs
+waiting::enter-returns-clause-runs g t c =
+    Awaited.enters_there (ways g.O.Outside.goes g.O.Outside.loses) c.args.tree.now c.serve_entry.new.tree c.args.outside.now c.serve_entry.new.outside c.args.place c.args.target.now (whole_entry c.args.entry) c.serve_entry.result
+    c.requires c.serve_entry.ensures.runs
 
-pub waiting::hand_in-returns-in_err-notify-clause-runs : goal.waiting::hand_in-returns-in_err-notify-clause-runs
-waiting::hand_in-returns-in_err-notify-clause-runs g t c =
+pub waiting::hand_to-enter-ended-requires : goal.waiting::hand_to-enter-ended-requires
+waiting::hand_to-enter-ended-requires g t c κs within = (search rules, (search rules, c.requires.there))
+
+pub waiting::hand_to-returns-in_err-notify-clause-runs : goal.waiting::hand_to-returns-in_err-notify-clause-runs
+waiting::hand_to-returns-in_err-notify-clause-runs g t c =
     let p = err_from_is_err_and c.from_residual.result c.from_residual.ensures.1 in
-    Awaited.handed_over (ways g.O.Outside.goes g.O.Outside.loses) c.args.tree.now c.enter-ended.new.tree c.args.outside.now c.enter-ended.new.outside c.args.place c.args.up (whole_entry c.args.entry.now) c.as_slice-path.result.now c.args.target.items
-    (whole_entry c.args.inner) c.enter-ended.result c.notify.new.self c.from_residual.result p.0 p.1 p.2 c.as_slice-path.ensures.value c.enter-ended.ensures.runs (lost_once c.notify.ensures.lost)
+    Awaited.handed_over (ways g.O.Outside.goes g.O.Outside.loses) c.args.tree.now c.enter-ended.new.tree c.args.outside.now c.enter-ended.new.outside c.args.place c.args.up (whole_entry c.args.entry.now) c.args.path.now c.args.there c.requires.there (whole_entry c.args.inner) c.enter-ended.result c.enter-ended.ensures.runs
+    c.notify.new.self c.from_residual.result p.0 p.1 p.2 (lost_once c.notify.ensures.lost)
 
-pub waiting::hand_in-returns-in_err-status-clause-runs : goal.waiting::hand_in-returns-in_err-status-clause-runs
-waiting::hand_in-returns-in_err-status-clause-runs g t c =
+pub waiting::hand_to-returns-in_err-notify-clause-quits : goal.waiting::hand_to-returns-in_err-notify-clause-quits
+waiting::hand_to-returns-in_err-notify-clause-quits g t c =
+    let p = err_from_is_err_and c.from_residual.result c.from_residual.ensures.1 in
+    Awaited.memory_quits c.from_residual.result p.0 p.1 p.2
+
+pub waiting::hand_to-returns-in_err-status-clause-runs : goal.waiting::hand_to-returns-in_err-status-clause-runs
+waiting::hand_to-returns-in_err-status-clause-runs g t c =
     let p = err_from_is_err_and c.from_residual-in_err-status.result c.from_residual-in_err-status.ensures.1 in
-    Awaited.handed_over (ways g.O.Outside.goes g.O.Outside.loses) c.args.tree.now c.enter-ended.new.tree c.args.outside.now c.enter-ended.new.outside c.args.place c.args.up (whole_entry c.args.entry.now) c.as_slice-path.result.now c.args.target.items
-    (whole_entry c.args.inner) c.enter-ended.result c.notify.new.self c.from_residual-in_err-status.result p.0 p.1 p.2 c.as_slice-path.ensures.value c.enter-ended.ensures.runs (lost_once c.notify.ensures.lost)
+    Awaited.handed_over (ways g.O.Outside.goes g.O.Outside.loses) c.args.tree.now c.enter-ended.new.tree c.args.outside.now c.enter-ended.new.outside c.args.place c.args.up (whole_entry c.args.entry.now) c.args.path.now c.args.there c.requires.there (whole_entry c.args.inner) c.enter-ended.result c.enter-ended.ensures.runs
+    c.notify.new.self c.from_residual-in_err-status.result p.0 p.1 p.2 (lost_once c.notify.ensures.lost)
 
-pub waiting::hand_in-returns-in_default-clause-runs : goal.waiting::hand_in-returns-in_default-clause-runs
-waiting::hand_in-returns-in_default-clause-runs g t c =
-    Awaited.handed_on (ways g.O.Outside.goes g.O.Outside.loses) c.args.tree.now c.enter-ended.new.tree c.args.outside.now c.enter-ended.new.outside c.args.place c.args.up (whole_entry c.args.entry.now) c.as_slice-path.result.now c.args.target.items
-    (whole_entry c.args.inner) c.enter-ended.result c.notify.new.self c.in_ok-status.field-0 c.in_default.is c.as_slice-path.ensures.value c.enter-ended.ensures.runs c.in_ok-notify.ensures.told c.in_ok-status.ensures
+pub waiting::hand_to-returns-in_err-status-clause-quits : goal.waiting::hand_to-returns-in_err-status-clause-quits
+waiting::hand_to-returns-in_err-status-clause-quits g t c =
+    let p = err_from_is_err_and c.from_residual-in_err-status.result c.from_residual-in_err-status.ensures.1 in
+    Awaited.memory_quits c.from_residual-in_err-status.result p.0 p.1 p.2
 
-pub waiting::hand_in-returns-in_err-notify-2-clause-runs : goal.waiting::hand_in-returns-in_err-notify-2-clause-runs
-waiting::hand_in-returns-in_err-notify-2-clause-runs g t c =
+pub waiting::hand_to-returns-in_err-notify-2-clause-runs : goal.waiting::hand_to-returns-in_err-notify-2-clause-runs
+waiting::hand_to-returns-in_err-notify-2-clause-runs g t c =
     let p = err_from_is_err_and c.from_residual-in_err-notify-2.result c.from_residual-in_err-notify-2.ensures.1 in
-    Awaited.handed_over (ways g.O.Outside.goes g.O.Outside.loses) c.args.tree.now c.enter-ended.new.tree c.args.outside.now c.enter-ended.new.outside c.args.place c.args.up (whole_entry c.args.entry.now) c.as_slice-path.result.now c.args.target.items
-    (whole_entry c.args.inner) c.enter-ended.result c.notify-2.new.self c.from_residual-in_err-notify-2.result p.0 p.1 p.2 c.as_slice-path.ensures.value c.enter-ended.ensures.runs (lost_again c.notify.new.self c.notify.ensures.lost c.notify-2.ensures.lost)
+    Awaited.handed_over (ways g.O.Outside.goes g.O.Outside.loses) c.args.tree.now c.enter-ended.new.tree c.args.outside.now c.enter-ended.new.outside c.args.place c.args.up (whole_entry c.args.entry.now) c.args.path.now c.args.there c.requires.there (whole_entry c.args.inner) c.enter-ended.result c.enter-ended.ensures.runs
+    c.notify-2.new.self c.from_residual-in_err-notify-2.result p.0 p.1 p.2 (lost_again c.notify.new.self c.notify.ensures.lost c.notify-2.ensures.lost)
 
-pub waiting::hand_in-returns-clause-runs : goal.waiting::hand_in-returns-clause-runs
-waiting::hand_in-returns-clause-runs g t c =
+pub waiting::hand_to-returns-in_err-notify-2-clause-quits : goal.waiting::hand_to-returns-in_err-notify-2-clause-quits
+waiting::hand_to-returns-in_err-notify-2-clause-quits g t c =
+    let p = err_from_is_err_and c.from_residual-in_err-notify-2.result c.from_residual-in_err-notify-2.ensures.1 in
+    Awaited.memory_quits c.from_residual-in_err-notify-2.result p.0 p.1 p.2
+
+pub waiting::hand_to-returns-in_default-clause-runs : goal.waiting::hand_to-returns-in_default-clause-runs
+waiting::hand_to-returns-in_default-clause-runs g t c =
+    Awaited.handed_on (ways g.O.Outside.goes g.O.Outside.loses) c.args.tree.now c.enter-ended.new.tree c.args.outside.now c.enter-ended.new.outside c.args.place c.args.up (whole_entry c.args.entry.now) c.args.path.now c.args.there c.requires.there (whole_entry c.args.inner) c.enter-ended.result c.enter-ended.ensures.runs
+    c.notify.new.self c.in_ok-status.field-0 c.in_default.is c.in_ok-notify.ensures.told c.in_ok-status.ensures
+
+pub waiting::hand_to-returns-clause-runs : goal.waiting::hand_to-returns-clause-runs
+waiting::hand_to-returns-clause-runs g t c =
     let fits_it : FitsSigned w64 c.in-Some.status = search rules in
     let same = to_z-of_z w64 c.in-Some.status fits_it in
-    Awaited.handed_out (ways g.O.Outside.goes g.O.Outside.loses) c.args.tree.now c.enter-ended.new.tree c.args.outside.now c.enter-ended.new.outside c.args.place c.args.up (whole_entry c.args.entry.now) c.as_slice-path.result.now c.args.target.items
-    (whole_entry c.args.inner) c.enter-ended.result c.notify.new.self c.notify-2.new.self _ c.in_ok-status.field-0 (c.in-Some.is ∙ ap (λ (n : ℤ). Some n) (sym same)) c.as_slice-path.ensures.value
-    c.enter-ended.ensures.runs c.in_ok-notify.ensures.told c.in_ok-status.ensures (λ p at e. c.in_ok-notify-2.ensures.told c.requires.handed p at e) c.enter-ended.ensures.keeps.steady
+    Awaited.handed_out (ways g.O.Outside.goes g.O.Outside.loses) c.args.tree.now c.enter-ended.new.tree c.args.outside.now c.enter-ended.new.outside c.args.place c.args.up (whole_entry c.args.entry.now) c.args.path.now c.args.there c.requires.there (whole_entry c.args.inner) c.enter-ended.result c.enter-ended.ensures.runs
+    c.notify.new.self c.notify-2.new.self _ c.in_ok-status.field-0 (c.in-Some.is ∙ ap (λ (n : ℤ). Some n) (sym same)) c.in_ok-notify.ensures.told c.in_ok-status.ensures
+    (λ p d holds e. c.in_ok-notify-2.ensures.told c.requires.handed p d holds e) c.enter-ended.ensures.keeps.steady
+
+pub waiting::hand_in-hand_to-requires : goal.waiting::hand_in-hand_to-requires
+waiting::hand_in-hand_to-requires g t c κs within = (search rules, (search rules, (c.requires.handed, c.in-Some.ensures.there)))
+
+pub waiting::hand_in-returns-in-Some-clause-runs : goal.waiting::hand_in-returns-in-Some-clause-runs
+waiting::hand_in-returns-in-Some-clause-runs g t c =
+    Awaited.handed_at (ways g.O.Outside.goes g.O.Outside.loses) c.args.tree.now c.hand_to.new.tree c.args.outside.now c.hand_to.new.outside c.args.place c.args.up (whole_entry c.args.entry.now) c.as_slice-path.result.now c.args.target.items (whole_entry c.args.inner) c.hand_to.result c.as_slice-path.ensures.value c.hand_to.ensures.runs
+
+pub waiting::hand_in-returns-in_err-miss_entry-in-None-clause-runs : goal.waiting::hand_in-returns-in_err-miss_entry-in-None-clause-runs
+waiting::hand_in-returns-in_err-miss_entry-in-None-clause-runs g t c =
+    let p = err_from_is_err_and c.from_residual.result c.from_residual.ensures.1 in
+    Awaited.handed_at (ways g.O.Outside.goes g.O.Outside.loses) c.args.tree.now c.args.tree.now c.args.outside.now c.miss_entry.new.outside c.args.place c.args.up (whole_entry c.args.entry.now) c.as_slice-path.result.now c.args.target.items (whole_entry c.args.inner) c.from_residual.result c.as_slice-path.ensures.value
+    (Awaited.handed_early (ways g.O.Outside.goes g.O.Outside.loses) c.args.tree.now c.args.outside.now c.args.place c.args.up (whole_entry c.args.entry.now) c.as_slice-path.result.now (whole_entry c.args.inner) c.miss_entry.new.outside c.from_residual.result p.0 p.1 p.2 c.miss_entry.ensures.lost)
+
+pub waiting::hand_in-returns-in_err-miss_entry-in-None-clause-quits : goal.waiting::hand_in-returns-in_err-miss_entry-in-None-clause-quits
+waiting::hand_in-returns-in_err-miss_entry-in-None-clause-quits g t c =
+    let p = err_from_is_err_and c.from_residual.result c.from_residual.ensures.1 in
+    Awaited.memory_quits c.from_residual.result p.0 p.1 p.2
+
+pub waiting::hand_in-returns-in_ok-miss_entry-in-None-clause-runs : goal.waiting::hand_in-returns-in_ok-miss_entry-in-None-clause-runs
+waiting::hand_in-returns-in_ok-miss_entry-in-None-clause-runs g t c =
+    Awaited.handed_at (ways g.O.Outside.goes g.O.Outside.loses) c.args.tree.now c.args.tree.now c.args.outside.now c.miss_entry.new.outside c.args.place c.args.up (whole_entry c.args.entry.now) c.as_slice-path.result.now c.args.target.items (whole_entry c.args.inner) (Ok tt) c.as_slice-path.ensures.value
+    (Awaited.handed_to_nobody (ways g.O.Outside.goes g.O.Outside.loses) c.args.tree.now c.args.outside.now c.args.place c.args.up (whole_entry c.args.entry.now) c.as_slice-path.result.now (whole_entry c.args.inner) c.miss_entry.new.outside c.in-None.ensures.missing c.in_ok-miss_entry-in-None.ensures.misses)
+
+pub waiting::hand_in-miss_entry-requires : goal.waiting::hand_in-miss_entry-requires
+waiting::hand_in-miss_entry-requires g t c = (c.requires.handed, c.in-None.ensures.missing)
+
+pub waiting::wait-turns-init : goal.waiting::wait-turns-init
+waiting::wait-turns-init g t c = record { leads = λ p style at k V w r t. t; keeps = keeps-refl _ _ }
+
+pub waiting::wait-next-coming-requires : goal.waiting::wait-next-coming-requires
+waiting::wait-next-coming-requires g t c = (c.requires.asked, (c.requires.running.0, ((depth_of (tree_of c.args.tree.now c.requires.running.0)), (steady_holds c.args.tree.now c.turns.tree c.args.place c.requires.running.0 c.turns.invariant.keeps.steady c.requires.running.1 c.requires.running.2))))
+
+pub waiting::wait-told_next-requires : goal.waiting::wait-told_next-requires
+waiting::wait-told_next-requires g t c = (c.requires.running.0, ((depth_of (tree_of c.args.tree.now c.requires.running.0)), (steady_holds c.args.tree.now c.turns.tree c.args.place c.requires.running.0 c.turns.invariant.keeps.steady c.requires.running.1 c.requires.running.2)))
 
 pub waiting::wait-returns-in_err-target-clause-runs : goal.waiting::wait-returns-in_err-target-clause-runs
 waiting::wait-returns-in_err-target-clause-runs g t c =
     let p = err_from_is_err_and c.from_residual.result c.from_residual.ensures.1 in
     ran_err c.from_residual.result c.in_err-target.field-0.0 p.0 _ _ _ p.1 p.2
-    (Awaited.ends_wait (ways g.O.Outside.goes g.O.Outside.loses) c.args.tree.now c.turns.tree c.args.outside.now c.turns.outside c.next.new.self c.args.place c.args.up (whole_entry c.args.entry.now) c.in_err-target.field-0.0
-    c.turns.invariant.leads c.turns.invariant.keeps.steady c.requires.above (λ q at e. c.in_err-target.ensures.comes q at e) c.in_err-target.ensures.lost) (λ e h. h)
+    (Awaited.ends_wait (ways g.O.Outside.goes g.O.Outside.loses) g.O.Outside.hands_in c.args.tree.now c.turns.tree c.args.outside.now c.turns.outside c.next-coming.new.self c.args.place c.args.up (whole_entry c.args.entry.now) c.next-coming.result c.told_next.result
+    c.turns.invariant.leads c.turns.invariant.keeps.steady c.requires.above (λ p d holds. c.told_next.ensures p d holds) (λ p d holds e. c.next-coming.ensures.comes p d holds e)
+    c.in_err-target.field-0.0 c.in_err-target.was (subst (λ (x : Result Turn Interruption). WhereMemory x (g.O.Outside.loses c.turns.outside c.next-coming.new.self)) c.in_err-target.was (Awaited.memory_told (gone (depth_of (tree_of c.args.tree.now c.requires.running.0)) (tree_of c.turns.tree) c.requires.running.0) c.next-coming.result c.told_next.result (g.O.Outside.loses c.turns.outside c.next-coming.new.self) (c.told_next.ensures c.requires.running.0 (depth_of (tree_of c.args.tree.now c.requires.running.0)) (steady_holds c.args.tree.now c.turns.tree c.args.place c.requires.running.0 c.turns.invariant.keeps.steady c.requires.running.1 c.requires.running.2)) c.next-coming.ensures.lost))) (λ e h. h)
+
+pub waiting::wait-returns-in_err-target-clause-here : goal.waiting::wait-returns-in_err-target-clause-here
+waiting::wait-returns-in_err-target-clause-here g t c =
+    let p = err_from_is_err_and c.from_residual.result c.from_residual.ensures.1 in
+    completes_err c.from_residual.result c.in_err-target.field-0.0 p.0 (IsHere c.args.tree.now c.turns.tree c.args.place) (IsHere c.args.tree.now c.turns.tree c.args.place) p.1 p.2 (Awaited.here_ended c.args.tree.now c.turns.tree c.args.place c.next-coming.result c.told_next.result c.in_err-target.field-0.0 c.turns.invariant.keeps.steady c.requires.running (λ p d holds. c.told_next.ensures p d holds) c.in_err-target.was) (λ h. h)
+
+pub waiting::wait-returns-in-Completed-clause-runs : goal.waiting::wait-returns-in-Completed-clause-runs
+waiting::wait-returns-in-Completed-clause-runs g t c =
+    Awaited.completes_wait (ways g.O.Outside.goes g.O.Outside.loses) g.O.Outside.hands_in c.args.tree.now c.turns.tree c.args.outside.now c.turns.outside c.next-coming.new.self c.args.place c.args.up (whole_entry c.args.entry.now) c.next-coming.result c.told_next.result
+    c.turns.invariant.leads c.turns.invariant.keeps.steady c.requires.above (λ p d holds. c.told_next.ensures p d holds) (λ p d holds e. c.next-coming.ensures.comes p d holds e)
+    c.in-Completed.value (c.in_ok-target.was ∙ ap Ok c.in-Completed.is)
+
+pub waiting::wait-returns-in-Completed-clause-own : goal.waiting::wait-returns-in-Completed-clause-own
+waiting::wait-returns-in-Completed-clause-own g t c =
+    Awaited.own_kind (ways g.O.Outside.goes g.O.Outside.loses) g.O.Outside.hands_in c.args.tree.now c.turns.tree c.args.outside.now c.turns.outside c.next-coming.new.self c.args.place c.args.up (whole_entry c.args.entry.now) c.next-coming.result c.told_next.result
+    c.turns.invariant.leads c.turns.invariant.keeps.steady c.requires.above (λ p d holds. c.told_next.ensures p d holds) (λ p d holds e. c.next-coming.ensures.comes p d holds e)
+    c.requires.running (Ok (turn.Completed c.in-Completed.value)) (Replied (Completed (ok c.in-Completed.value))) (c.in_ok-target.was ∙ ap Ok c.in-Completed.is) (λ x h. h) (λ p x. x.1)
+
+pub waiting::wait-returns-in-Completed-clause-here : goal.waiting::wait-returns-in-Completed-clause-here
+waiting::wait-returns-in-Completed-clause-here g t c =
+    Awaited.here_told c.args.tree.now c.turns.tree c.args.place c.next-coming.result c.told_next.result (Ok (turn.Completed c.in-Completed.value)) c.turns.invariant.keeps.steady c.requires.running (λ p d holds. c.told_next.ensures p d holds) (c.in_ok-target.was ∙ ap Ok c.in-Completed.is) (λ x h. h)
+
+pub waiting::wait-returns-in-Heard-clause-runs : goal.waiting::wait-returns-in-Heard-clause-runs
+waiting::wait-returns-in-Heard-clause-runs g t c =
+    Awaited.hears_wait (ways g.O.Outside.goes g.O.Outside.loses) g.O.Outside.hands_in c.args.tree.now c.turns.tree c.args.outside.now c.turns.outside c.next-coming.new.self c.args.place c.args.up (whole_entry c.args.entry.now) c.next-coming.result c.told_next.result
+    c.turns.invariant.leads c.turns.invariant.keeps.steady c.requires.above (λ p d holds. c.told_next.ensures p d holds) (λ p d holds e. c.next-coming.ensures.comes p d holds e)
+    c.in-Heard.reply (c.in_ok-target.was ∙ ap Ok c.in-Heard.is)
+
+pub waiting::wait-returns-in-Heard-clause-own : goal.waiting::wait-returns-in-Heard-clause-own
+waiting::wait-returns-in-Heard-clause-own g t c =
+    Awaited.own_kind (ways g.O.Outside.goes g.O.Outside.loses) g.O.Outside.hands_in c.args.tree.now c.turns.tree c.args.outside.now c.turns.outside c.next-coming.new.self c.args.place c.args.up (whole_entry c.args.entry.now) c.next-coming.result c.told_next.result
+    c.turns.invariant.leads c.turns.invariant.keeps.steady c.requires.above (λ p d holds. c.told_next.ensures p d holds) (λ p d holds e. c.next-coming.ensures.comes p d holds e)
+    c.requires.running (Ok (turn.Heard c.in-Heard.reply)) (Heard (reply_of c.in-Heard.reply)) (c.in_ok-target.was ∙ ap Ok c.in-Heard.is) (λ x h. h) (λ p x. x.1)
+
+pub waiting::wait-returns-in-Heard-clause-here : goal.waiting::wait-returns-in-Heard-clause-here
+waiting::wait-returns-in-Heard-clause-here g t c =
+    Awaited.here_told c.args.tree.now c.turns.tree c.args.place c.next-coming.result c.told_next.result (Ok (turn.Heard c.in-Heard.reply)) c.turns.invariant.keeps.steady c.requires.running (λ p d holds. c.told_next.ensures p d holds) (c.in_ok-target.was ∙ ap Ok c.in-Heard.is) (λ x h. h)
+
+pub waiting::wait-returns-in-Nobody-clause-runs : goal.waiting::wait-returns-in-Nobody-clause-runs
+waiting::wait-returns-in-Nobody-clause-runs g t c =
+    Awaited.misses_wait (ways g.O.Outside.goes g.O.Outside.loses) g.O.Outside.hands_in c.args.tree.now c.turns.tree c.args.outside.now c.turns.outside c.next-coming.new.self c.args.place c.args.up (whole_entry c.args.entry.now) c.next-coming.result c.told_next.result
+    c.turns.invariant.leads c.turns.invariant.keeps.steady c.requires.above (λ p d holds. c.told_next.ensures p d holds) (λ p d holds e. c.next-coming.ensures.comes p d holds e)
+    (c.in_ok-target.was ∙ ap Ok c.in-Nobody.is)
+
+pub waiting::wait-returns-in-Nobody-clause-own : goal.waiting::wait-returns-in-Nobody-clause-own
+waiting::wait-returns-in-Nobody-clause-own g t c =
+    Awaited.own_kind (ways g.O.Outside.goes g.O.Outside.loses) g.O.Outside.hands_in c.args.tree.now c.turns.tree c.args.outside.now c.turns.outside c.next-coming.new.self c.args.place c.args.up (whole_entry c.args.entry.now) c.next-coming.result c.told_next.result
+    c.turns.invariant.leads c.turns.invariant.keeps.steady c.requires.above (λ p d holds. c.told_next.ensures p d holds) (λ p d holds e. c.next-coming.ensures.comes p d holds e)
+    c.requires.running (Ok turn.Nobody) Nobody (c.in_ok-target.was ∙ ap Ok c.in-Nobody.is) (λ x h. h) (λ p x. x.1)
+
+pub waiting::wait-returns-in-Nobody-clause-here : goal.waiting::wait-returns-in-Nobody-clause-here
+waiting::wait-returns-in-Nobody-clause-here g t c =
+    Awaited.here_told c.args.tree.now c.turns.tree c.args.place c.next-coming.result c.told_next.result (Ok turn.Nobody) c.turns.invariant.keeps.steady c.requires.running (λ p d holds. c.told_next.ensures p d holds) (c.in_ok-target.was ∙ ap Ok c.in-Nobody.is) (λ x h. h)
 
 pub waiting::wait-hand_in-requires : goal.waiting::wait-hand_in-requires
 waiting::wait-hand_in-requires g t c =
-    let p = c.requires.running.0 in
-    let named = c.turns.invariant.keeps.steady.keys p _ c.requires.running.1 c.requires.running.2 in
-    let comes = Awaited.turned (ways g.O.Outside.goes g.O.Outside.loses) g.O.Outside.hands_in (tree_of c.turns.tree) c.turns.outside c.next.new.self p c.args.up (whole_entry c.args.entry.now) c.in_ok-target.field-0 _ c.in-Entry.is
-    (c.in_ok-target.ensures.comes p named (c.requires.above p c.requires.running.1)) in
-    let fewer = subst (λ (x : Turn). OnEntry (Ok x) (g.O.Outside.entries_left c.next.new.self < g.O.Outside.entries_left c.turns.outside)) c.in-Entry.is c.in_ok-target.ensures.fewer in
+    let at : IsAt c.args.tree.now c.args.place c.requires.running.0 (marks_of c.args.tree.now).integers = record { names = c.requires.running.1; style_is = refl; running = c.requires.running.2 } in
+    let comes = Awaited.told_as (ways g.O.Outside.goes g.O.Outside.loses) g.O.Outside.hands_in c.args.tree.now c.turns.tree c.args.outside.now c.turns.outside c.next-coming.new.self c.args.place c.args.up (whole_entry c.args.entry.now) c.next-coming.result c.told_next.result
+    c.turns.invariant.leads c.turns.invariant.keeps.steady c.requires.above (λ p d holds. c.told_next.ensures p d holds) (λ p d holds e. c.next-coming.ensures.comes p d holds e)
+    (Ok (turn.Entry c.in-Entry.target c.in-Entry.inner)) (c.in_ok-target.was ∙ ap Ok c.in-Entry.is) c.requires.running.0 (marks_of c.args.tree.now).integers at in
+    let fewer : g.O.Outside.entries_left c.next-coming.new.self < g.O.Outside.entries_left c.turns.outside = (subst (λ (x : Result Turn Interruption). OnEntry x (g.O.Outside.entries_left c.next-coming.new.self < g.O.Outside.entries_left c.turns.outside)) (c.in_ok-target.was ∙ ap Ok c.in-Entry.is) (Awaited.on_entry_told (gone (depth_of (tree_of c.args.tree.now c.requires.running.0)) (tree_of c.turns.tree) c.requires.running.0) c.next-coming.result c.told_next.result (g.O.Outside.entries_left c.next-coming.new.self < g.O.Outside.entries_left c.turns.outside) (c.told_next.ensures c.requires.running.0 (depth_of (tree_of c.args.tree.now c.requires.running.0)) (steady_holds c.args.tree.now c.turns.tree c.args.place c.requires.running.0 c.turns.invariant.keeps.steady c.requires.running.1 c.requires.running.2)) c.next-coming.ensures.fewer)) in
     let left = c.turns.invariant.keeps.left in
     let most : room (tree_of c.turns.tree) ≤ 1000 = omega arith in
-    λ κs h. (search rules, (search rules, ((p, named, still_in_use c.args.tree.now c.turns.tree p c.turns.invariant.keeps.steady c.requires.running.2), comes.1)))
+    λ κs h. (search rules, (search rules, comes.1))
 
 pub waiting::wait-turns-preserved : goal.waiting::wait-turns-preserved
 waiting::wait-turns-preserved g t c = record {
-  leads = Awaited.waits_on (ways g.O.Outside.goes g.O.Outside.loses) c.args.tree.now c.turns.tree c.hand_in.new.tree c.args.outside.now c.turns.outside c.next.new.self c.hand_in.new.outside c.args.place c.args.up (whole_entry c.args.entry.now)
+  leads = Awaited.waits_on (ways g.O.Outside.goes g.O.Outside.loses) c.args.tree.now c.turns.tree c.hand_in.new.tree c.args.outside.now c.turns.outside c.next-coming.new.self c.hand_in.new.outside c.args.place c.args.up (whole_entry c.args.entry.now)
       c.in-Entry.target.items (whole_entry c.in-Entry.inner) c.turns.invariant.leads c.turns.invariant.keeps.steady c.requires.above
-      (λ p at e. (Awaited.turned (ways g.O.Outside.goes g.O.Outside.loses) g.O.Outside.hands_in (tree_of c.turns.tree) c.turns.outside c.next.new.self p c.args.up (whole_entry c.args.entry.now) c.in_ok-target.field-0 _ c.in-Entry.is (c.in_ok-target.ensures.comes p at e)).0)
+      (λ p style at. (Awaited.told_as (ways g.O.Outside.goes g.O.Outside.loses) g.O.Outside.hands_in c.args.tree.now c.turns.tree c.args.outside.now c.turns.outside c.next-coming.new.self c.args.place c.args.up (whole_entry c.args.entry.now) c.next-coming.result c.told_next.result
+      c.turns.invariant.leads c.turns.invariant.keeps.steady c.requires.above (λ p d holds. c.told_next.ensures p d holds) (λ p d holds e. c.next-coming.ensures.comes p d holds e)
+      (Ok (turn.Entry c.in-Entry.target c.in-Entry.inner)) (c.in_ok-target.was ∙ ap Ok c.in-Entry.is) p style at).0)
       c.in_ok-hand_in-in-Entry.ensures.runs;
-  keeps = keeps-trans c.turns.invariant.keeps (keeps-trans (told_keeps c.next.ensures.left) c.hand_in.ensures.keeps);
+  keeps = keeps-trans c.turns.invariant.keeps (keeps-trans (told_keeps c.next-coming.ensures.left) c.hand_in.ensures.keeps);
 }
 
 pub waiting::wait-returns-in_err-hand_in-in-Entry-clause-runs : goal.waiting::wait-returns-in_err-hand_in-in-Entry-clause-runs
 waiting::wait-returns-in_err-hand_in-in-Entry-clause-runs g t c =
     let p = err_from_is_err_and c.from_residual-in_err-hand_in-in-Entry.result c.from_residual-in_err-hand_in-in-Entry.ensures.1 in
     ran_err c.from_residual-in_err-hand_in-in-Entry.result c.in_err-hand_in-in-Entry.field-0.0 p.0 _ _ _ p.1 p.2
-    (Awaited.waits_out (ways g.O.Outside.goes g.O.Outside.loses) c.args.tree.now c.turns.tree c.hand_in.new.tree c.args.outside.now c.turns.outside c.next.new.self c.hand_in.new.outside c.args.place c.args.up (whole_entry c.args.entry.now)
+    (Awaited.waits_out (ways g.O.Outside.goes g.O.Outside.loses) c.args.tree.now c.turns.tree c.hand_in.new.tree c.args.outside.now c.turns.outside c.next-coming.new.self c.hand_in.new.outside c.args.place c.args.up (whole_entry c.args.entry.now)
     c.in-Entry.target.items (whole_entry c.in-Entry.inner) c.in_err-hand_in-in-Entry.field-0.0 c.turns.invariant.leads c.turns.invariant.keeps.steady c.requires.above
-    (λ q at e. (Awaited.turned (ways g.O.Outside.goes g.O.Outside.loses) g.O.Outside.hands_in (tree_of c.turns.tree) c.turns.outside c.next.new.self q c.args.up (whole_entry c.args.entry.now) c.in_ok-target.field-0 _ c.in-Entry.is (c.in_ok-target.ensures.comes q at e)).0)
+    (subst (λ (x : Result Turn Interruption). OnEntry x (g.O.Outside.loses c.turns.outside c.next-coming.new.self)) (c.in_ok-target.was ∙ ap Ok c.in-Entry.is) (Awaited.on_entry_told (gone (depth_of (tree_of c.args.tree.now c.requires.running.0)) (tree_of c.turns.tree) c.requires.running.0) c.next-coming.result c.told_next.result (g.O.Outside.loses c.turns.outside c.next-coming.new.self) (c.told_next.ensures c.requires.running.0 (depth_of (tree_of c.args.tree.now c.requires.running.0)) (steady_holds c.args.tree.now c.turns.tree c.args.place c.requires.running.0 c.turns.invariant.keeps.steady c.requires.running.1 c.requires.running.2)) c.next-coming.ensures.handed))
+    (λ p style at. (Awaited.told_as (ways g.O.Outside.goes g.O.Outside.loses) g.O.Outside.hands_in c.args.tree.now c.turns.tree c.args.outside.now c.turns.outside c.next-coming.new.self c.args.place c.args.up (whole_entry c.args.entry.now) c.next-coming.result c.told_next.result
+    c.turns.invariant.leads c.turns.invariant.keeps.steady c.requires.above (λ p d holds. c.told_next.ensures p d holds) (λ p d holds e. c.next-coming.ensures.comes p d holds e)
+    (Ok (turn.Entry c.in-Entry.target c.in-Entry.inner)) (c.in_ok-target.was ∙ ap Ok c.in-Entry.is) p style at).0)
     c.in_err-hand_in-in-Entry.ensures.runs) (λ e h. h)
 
 pub waiting::wait-returns-in_err-hand_in-in-Entry-clause-keeps : goal.waiting::wait-returns-in_err-hand_in-in-Entry-clause-keeps
-waiting::wait-returns-in_err-hand_in-in-Entry-clause-keeps g t c = keeps-trans c.turns.invariant.keeps (keeps-trans (told_keeps c.next.ensures.left) c.hand_in.ensures.keeps)
+waiting::wait-returns-in_err-hand_in-in-Entry-clause-keeps g t c = keeps-trans c.turns.invariant.keeps (keeps-trans (told_keeps c.next-coming.ensures.left) c.hand_in.ensures.keeps)
 
-pub waiting::wait-returns-in-Completed-clause-runs : goal.waiting::wait-returns-in-Completed-clause-runs
-waiting::wait-returns-in-Completed-clause-runs g t c =
-    Awaited.completes_wait (ways g.O.Outside.goes g.O.Outside.loses) c.args.tree.now c.turns.tree c.args.outside.now c.turns.outside c.next.new.self c.args.place c.args.up (whole_entry c.args.entry.now) c.in-Completed.value
-    c.turns.invariant.leads c.turns.invariant.keeps.steady c.requires.above
-    (λ p at e. Awaited.turned (ways g.O.Outside.goes g.O.Outside.loses) g.O.Outside.hands_in (tree_of c.turns.tree) c.turns.outside c.next.new.self p c.args.up (whole_entry c.args.entry.now) c.in_ok-target.field-0 _ c.in-Completed.is (c.in_ok-target.ensures.comes p at e))
+pub waiting::wait-returns-in_err-hand_in-in-Entry-clause-here : goal.waiting::wait-returns-in_err-hand_in-in-Entry-clause-here
+waiting::wait-returns-in_err-hand_in-in-Entry-clause-here g t c =
+    let p = err_from_is_err_and c.from_residual-in_err-hand_in-in-Entry.result c.from_residual-in_err-hand_in-in-Entry.ensures.1 in
+    completes_err c.from_residual-in_err-hand_in-in-Entry.result c.in_err-hand_in-in-Entry.field-0.0 p.0 Prim.⊥ (IsHere c.args.tree.now c.hand_in.new.tree c.args.place) p.1 p.2 c.in_err-hand_in-in-Entry.ensures.quits (λ h. absurd h)
 
-pub waiting::wait-returns-in-Heard-clause-runs : goal.waiting::wait-returns-in-Heard-clause-runs
-waiting::wait-returns-in-Heard-clause-runs g t c =
-    Awaited.hears_wait (ways g.O.Outside.goes g.O.Outside.loses) c.args.tree.now c.turns.tree c.args.outside.now c.turns.outside c.next.new.self c.args.place c.args.up (whole_entry c.args.entry.now) (reply_of c.in-Heard.reply)
-    c.turns.invariant.leads c.turns.invariant.keeps.steady c.requires.above
-    (λ p at e. Awaited.turned (ways g.O.Outside.goes g.O.Outside.loses) g.O.Outside.hands_in (tree_of c.turns.tree) c.turns.outside c.next.new.self p c.args.up (whole_entry c.args.entry.now) c.in_ok-target.field-0 _ c.in-Heard.is (c.in_ok-target.ensures.comes p at e))
+pub waiting::hand_in-returns-in_err-miss_entry-in-None-clause-keeps : goal.waiting::hand_in-returns-in_err-miss_entry-in-None-clause-keeps
+waiting::hand_in-returns-in_err-miss_entry-in-None-clause-keeps g t c = told_keeps c.miss_entry.ensures.left
 
-pub waiting::wait-returns-in-Heard-clause-own : goal.waiting::wait-returns-in-Heard-clause-own
-waiting::wait-returns-in-Heard-clause-own g t c =
-    let p = c.requires.running.0 in
-    let named = c.turns.invariant.keeps.steady.keys p _ c.requires.running.1 c.requires.running.2 in
-    (Awaited.turned (ways g.O.Outside.goes g.O.Outside.loses) g.O.Outside.hands_in (tree_of c.turns.tree) c.turns.outside c.next.new.self p c.args.up (whole_entry c.args.entry.now) c.in_ok-target.field-0 _ c.in-Heard.is
-    (c.in_ok-target.ensures.comes p named (c.requires.above p c.requires.running.1))).1
+pub waiting::hand_in-returns-in_ok-miss_entry-in-None-clause-keeps : goal.waiting::hand_in-returns-in_ok-miss_entry-in-None-clause-keeps
+waiting::hand_in-returns-in_ok-miss_entry-in-None-clause-keeps g t c = told_keeps c.miss_entry.ensures.left
+
+pub crossing::call_there-returns-in_err-notify-clause-keeps : goal.crossing::call_there-returns-in_err-notify-clause-keeps
+crossing::call_there-returns-in_err-notify-clause-keeps g t c = told_keeps c.notify.ensures.left
+
+pub crossing::call_past_top-returns-in_err-notify-clause-keeps : goal.crossing::call_past_top-returns-in_err-notify-clause-keeps
+crossing::call_past_top-returns-in_err-notify-clause-keeps g t c = told_keeps c.notify.ensures.left
+
+pub hosting::ask-returns-in_err-notify-clause-keeps : goal.hosting::ask-returns-in_err-notify-clause-keeps
+hosting::ask-returns-in_err-notify-clause-keeps g t c = told_keeps c.notify.ensures.left
+
+pub crossing::call_alias-returns-in-Missing-clause-keeps : goal.crossing::call_alias-returns-in-Missing-clause-keeps
+crossing::call_alias-returns-in-Missing-clause-keeps g t c = told_keeps c.miss_alias.ensures.left
+
+pub crossing::ask_below-returns-in-Missing-clause-keeps : goal.crossing::ask_below-returns-in-Missing-clause-keeps
+crossing::ask_below-returns-in-Missing-clause-keeps g t c = told_keeps c.find_nobody.ensures.left

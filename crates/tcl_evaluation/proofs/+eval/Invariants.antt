@@ -4,7 +4,7 @@ use Rattle.std.specs.String.{string_bytes}
 use Rattle.tcl_core.specs.Paths.{Path}
 use Rattle.tcl_language.specs.Scripts.{commands, words, parts}
 use Rattle.tcl_run.specs.Entering.{whole_entry}
-use Rattle.tcl_run.specs.Runs.{IsAt, Keeps, room, ways}
+use Rattle.tcl_run.specs.Runs.{IsAt, IsHere, Keeps, room, ways}
 use Rattle.tcl_text.specs.declared.integer.Integers.{Integers}
 use Rattle.tcl_tree.specs.TreeOf.{tree_of}
 use Rattle.tcl_calls.specs.Words.{opens, IsShort}
@@ -76,7 +76,7 @@ abbrev pub decreases-crossing::invoke : goal.decreases-crossing::invoke
 decreases-crossing::invoke g l = 16016 * g.O.Outside.entries_left l.outside.now + 16 * room (tree_of l.tree.now) + 0
 
 abbrev pub decreases-crossing::invoke_at : goal.decreases-crossing::invoke_at
-decreases-crossing::invoke_at g l = 16016 * g.O.Outside.entries_left l.outside.now + 16 * room (tree_of l.tree.now) + 1
+decreases-crossing::invoke_at g l = 16016 * g.O.Outside.entries_left l.outside.now + 16 * room (tree_of l.tree.now) + 13
 
 abbrev pub decreases-crossing::serve_hidden : goal.decreases-crossing::serve_hidden
 decreases-crossing::serve_hidden g l = 16016 * g.O.Outside.entries_left l.outside.now + 16 * room (tree_of l.tree.now) + 2
@@ -106,6 +106,7 @@ abbrev pub invariant-evaluation::eval_commands-commands : goal.invariant-evaluat
 invariant-evaluation::eval_commands-commands g l = record {
   leads : (p : Path) (style : Integers) → IsAt l.fn.tree l.place p style →
       Leads (ways g.O.Outside.goes g.O.Outside.loses) style (tree_of l.fn.tree) l.fn.outside p (commands l.fn.script.commands l.fn.script.fault []) (tree_of l.tree) l.outside (commands (drop l.command-index l.command-items) l.fn.script.fault l.last);
+  here : IsHere l.fn.tree l.tree l.place;
   keeps : Keeps g.O.Outside.entries_left l.fn.tree l.tree l.fn.outside l.outside;
 }
 
@@ -113,6 +114,7 @@ abbrev pub invariant-evaluation::eval_command-words : goal.invariant-evaluation:
 invariant-evaluation::eval_command-words g l = record {
   leads : (p : Path) (style : Integers) → IsAt l.fn.tree l.place p style →
       Leads (ways g.O.Outside.goes g.O.Outside.loses) style (tree_of l.fn.tree) l.fn.outside p (words l.fn.command []) (tree_of l.tree) l.outside (words (drop l.word-index l.word-items) l.words.items);
+  here : IsHere l.fn.tree l.tree l.place;
   keeps : Keeps g.O.Outside.entries_left l.fn.tree l.tree l.fn.outside l.outside;
 }
 
@@ -121,6 +123,7 @@ invariant-evaluation::substitute-parts g l = record {
   leads : (p : Path) (style : Integers) → IsAt l.fn.tree l.place p style →
       Leads (ways g.O.Outside.goes g.O.Outside.loses) style (tree_of l.fn.tree) l.fn.outside p (parts l.fn.parts [] []) (tree_of l.tree) l.outside (parts (drop l.part-index l.parts) (opens l.elements.items) (string_bytes l.text));
   short : IsShort (string_bytes l.text);
+  here : IsHere l.fn.tree l.tree l.place;
   keeps : Keeps g.O.Outside.entries_left l.fn.tree l.tree l.fn.outside l.outside;
 }
 
@@ -154,6 +157,7 @@ abbrev pub invariant-expressions::expression-parts : goal.invariant-expressions:
 invariant-expressions::expression-parts g l = record {
   leads : (p : Path) (style : Integers) → IsAt l.fn.tree l.place p style → (text : List ℕ) → IsKept style text l.fn.kept →
       Leads (ways g.O.Outside.goes g.O.Outside.loses) style (tree_of l.fn.tree) l.fn.outside p (expression style text) (tree_of l.tree) l.outside (computed (from style l.kept.nodes.items l.evaluation.next l.evaluation.values.items) (settles style));
+  here : IsHere l.fn.tree l.tree l.place;
   keeps : Keeps g.O.Outside.entries_left l.fn.tree l.tree l.fn.outside l.outside;
 }
 
@@ -161,6 +165,7 @@ abbrev pub invariant-expressions::if_first-tests : goal.invariant-expressions::i
 invariant-expressions::if_first-tests g l = record {
   leads : (p : Path) (style : Integers) → IsAt l.fn.tree l.place p style →
       Leads (ways g.O.Outside.goes g.O.Outside.loses) style (tree_of l.fn.tree) l.fn.outside p (if_first style l.fn.args) (tree_of l.tree) l.outside (first_true style (tests_of (drop l.branch-index l.branch-items)) (option_copied l.last));
+  here : IsHere l.fn.tree l.tree l.place;
   keeps : Keeps g.O.Outside.entries_left l.fn.tree l.tree l.fn.outside l.outside;
 }
 
@@ -169,6 +174,7 @@ invariant-expressions::while_loop-turns g l = record {
   leads : (p : Path) (style : Integers) → IsAt l.fn.tree l.place p style →
       Leads (ways g.O.Outside.goes g.O.Outside.loses) style (tree_of l.fn.tree) l.fn.outside p (while_loop l.fn.args) (tree_of l.tree) l.outside (while_turns style (get_or l.fn.args 0 []) (get_or l.fn.args 1 []));
   body : l.body ≡ get_or l.fn.args 1 [];
+  here : IsHere l.fn.tree l.tree l.place;
   keeps : Keeps g.O.Outside.entries_left l.fn.tree l.tree l.fn.outside l.outside;
 }
 
@@ -178,6 +184,7 @@ invariant-expressions::for_loop-turns g l = record {
       Leads (ways g.O.Outside.goes g.O.Outside.loses) style (tree_of l.fn.tree) l.fn.outside p (for_loop l.fn.args) (tree_of l.tree) l.outside (for_turns style (get_or l.fn.args 1 []) (get_or l.fn.args 2 []) (get_or l.fn.args 3 []));
   next : l.next ≡ get_or l.fn.args 2 [];
   body : l.body ≡ get_or l.fn.args 3 [];
+  here : IsHere l.fn.tree l.tree l.place;
   keeps : Keeps g.O.Outside.entries_left l.fn.tree l.tree l.fn.outside l.outside;
 }
 
@@ -206,6 +213,7 @@ invariant-loops::walk_through-turns g l = record {
   leads : (p : Path) (style : Integers) → IsAt l.fn.tree l.place p style →
       Leads (ways g.O.Outside.goes g.O.Outside.loses) style (tree_of l.fn.tree) l.fn.outside p (foreach_turns (walks_at 0 l.fn.walks) l.fn.body) (tree_of l.tree) l.outside (foreach_turns (walks_at l.turns l.fn.walks) l.fn.body);
   script : l.script ≡ l.fn.body;
+  here : IsHere l.fn.tree l.tree l.place;
   keeps : Keeps g.O.Outside.entries_left l.fn.tree l.tree l.fn.outside l.outside;
 }
 
@@ -214,6 +222,7 @@ invariant-collecting::lmap-turns g l = record {
   leads : (p : Path) (style : Integers) → IsAt l.fn.tree l.place p style →
       Leads (ways g.O.Outside.goes g.O.Outside.loses) style (tree_of l.fn.tree) l.fn.outside p (lmap l.fn.args) (tree_of l.tree) l.outside (lmap_turns (walks_at l.turns l.walks.items) l.initial.body l.made);
   body : l.body ≡ l.initial.body;
+  here : IsHere l.fn.tree l.tree l.place;
   keeps : Keeps g.O.Outside.entries_left l.fn.tree l.tree l.fn.outside l.outside;
 }
 
@@ -255,7 +264,10 @@ abbrev pub decreases-waiting::wait : goal.decreases-waiting::wait
 decreases-waiting::wait g l = 16016 * g.O.Outside.entries_left l.outside.now + 16 * room (tree_of l.tree.now) + 0
 
 abbrev pub decreases-waiting::hand_in : goal.decreases-waiting::hand_in
-decreases-waiting::hand_in g l = 16016 * g.O.Outside.entries_left l.outside.now + 16 * room (tree_of l.tree.now) + 5
+decreases-waiting::hand_in g l = 16016 * g.O.Outside.entries_left l.outside.now + 16 * room (tree_of l.tree.now) + 6
+
+abbrev pub decreases-waiting::hand_to : goal.decreases-waiting::hand_to
+decreases-waiting::hand_to g l = 16016 * g.O.Outside.entries_left l.outside.now + 16 * room (tree_of l.tree.now) + 5
 
 abbrev pub decreases-waiting::enter : goal.decreases-waiting::enter
 decreases-waiting::enter g l = 16016 * g.O.Outside.entries_left l.outside.now + 16 * room (tree_of l.tree.now) + 4

@@ -13,7 +13,7 @@ use tcl_text::text::Text;
 use tcl_value::value::Value;
 
 impl Tree {
-    ghost use Rattle.tcl_interpreter.specs.Commands.{straight, way_between};
+    ghost use Rattle.tcl_interpreter.specs.Commands.{straight, way_between, way_past};
     ghost use Rattle.tcl_interpreter.specs.Own.{command_in, hidden_in};
     ghost use Rattle.tcl_interpreter.specs.Paths.{is_above};
     ghost use Rattle.tcl_tree.specs.Naming.{Becomes, RefusesThere, RefusesAt, Renames};
@@ -125,6 +125,36 @@ impl Tree {
             return Err(TreeError::NoInterpreter);
         };
         let way = Alias::between(alloc, from, to, words)?;
+        self.set_alias_at(place, name, way)
+    }
+
+    /// Makes a name of the interpreter at the path an alias whose calls leave the tree: what stands
+    /// outside of it answers them.
+    ///
+    /// # Errors
+    /// Refusals, in this order: 301; 238 of the name; 302 where it is a child. Want of memory.
+    pub fn set_alias_past(
+        &mut self,
+        alloc: Global,
+        path: &[Text],
+        name: Text,
+        words: Vec<Value>,
+    ) -> Result<(), TreeError>
+        ensures there { OnOk result (IsSome (tree_of self.old path.now)) }
+        ensures set { OnOk result (Becomes (tree_of self.old) (tree_of self.new) path.now
+            (λ own. named own name (command.Alias (way_past path.now words.items)))) }
+        ensures refused { IfErr result
+            (λ e. RefusesAt e (tree_of self.old) path.now
+            (λ own. named own name (command.Alias (way_past path.now words.items)))) }
+        ensures unchanged { OnErr result (tree_of self.new ≡ tree_of self.old) }
+        ensures keys { (q : List (List ℕ)) → key_of self.new q ≡ key_of self.old q }
+        ensures held { (k : ℕ) → held_of self.new k ≡ held_of self.old k }
+        ensures marks { marks_of self.new ≡ marks_of self.old }
+    {
+        let Some(place) = self.place(path) else {
+            return Err(TreeError::NoInterpreter);
+        };
+        let way = Alias::past(alloc, path, words)?;
         self.set_alias_at(place, name, way)
     }
 

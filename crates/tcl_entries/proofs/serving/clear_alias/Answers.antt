@@ -26,7 +26,7 @@ returns-in-Ok-clause-acts c = renaming_done c.args.tree.now c.clear_alias_at.new
     c.in-Ok.ensures.cleared
 
 pub returns-in-Ok-clause-level : goal.returns-in-Ok-clause-level
-returns-in-Ok-clause-level c = named_level c.args.tree.now c.clear_alias_at.new.self c.args.place (λ own. tree.cleared own c.in_ok-kept.kept) c.in-Ok.ensures.marks c.in-Ok.ensures.keys c.requires c.in-Ok.ensures.cleared
+returns-in-Ok-clause-level c = named_level c.args.tree.now c.clear_alias_at.new.self c.args.place (λ own. tree.cleared own c.in_ok-kept.kept) c.in-Ok.ensures.marks c.in-Ok.ensures.keys c.in-Ok.ensures.held c.requires c.in-Ok.ensures.cleared
 
 pub returns-clause-acts : goal.returns-clause-acts
 returns-clause-acts c = renaming_refused c.args.tree.now c.clear_alias_at.new.self c.args.place (λ own. language.cleared own c.args.name.now)

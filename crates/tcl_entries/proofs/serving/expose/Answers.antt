@@ -34,7 +34,7 @@ returns-in-Ok-clause-acts c = renaming_done c.args.tree.now c.expose_at.new.self
     c.in-Ok.ensures.moved
 
 pub returns-in-Ok-clause-level : goal.returns-in-Ok-clause-level
-returns-in-Ok-clause-level c = named_level c.args.tree.now c.expose_at.new.self c.args.place (λ own. tree.exposed_under own c.args.hidden.now c.in_ok-kept.kept) c.in-Ok.ensures.marks c.in-Ok.ensures.keys c.requires c.in-Ok.ensures.moved
+returns-in-Ok-clause-level c = named_level c.args.tree.now c.expose_at.new.self c.args.place (λ own. tree.exposed_under own c.args.hidden.now c.in_ok-kept.kept) c.in-Ok.ensures.marks c.in-Ok.ensures.keys c.in-Ok.ensures.held c.requires c.in-Ok.ensures.moved
 
 pub returns-in-Err-clause-acts : goal.returns-in-Err-clause-acts
 returns-in-Err-clause-acts c = renaming_refused c.args.tree.now c.expose_at.new.self c.args.place (λ own. language.exposed_as own c.args.hidden.now c.args.name.now)

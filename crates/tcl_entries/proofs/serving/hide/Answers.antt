@@ -35,7 +35,7 @@ returns-in-Ok-clause-acts c = renaming_done c.args.tree.now c.hide_at.new.self c
     c.in-Ok.ensures.moved
 
 pub returns-in-Ok-clause-level : goal.returns-in-Ok-clause-level
-returns-in-Ok-clause-level c = named_level c.args.tree.now c.hide_at.new.self c.args.place (λ own. tree.hidden_under own c.in_ok-kept.kept c.in_ok-clone.field-0) c.in-Ok.ensures.marks c.in-Ok.ensures.keys c.requires c.in-Ok.ensures.moved
+returns-in-Ok-clause-level c = named_level c.args.tree.now c.hide_at.new.self c.args.place (λ own. tree.hidden_under own c.in_ok-kept.kept c.in_ok-clone.field-0) c.in-Ok.ensures.marks c.in-Ok.ensures.keys c.in-Ok.ensures.held c.requires c.in-Ok.ensures.moved
 
 pub returns-clause-acts : goal.returns-clause-acts
 returns-clause-acts c = renaming_refused c.args.tree.now c.hide_at.new.self c.args.place (λ own. language.hidden_as own c.args.name.now c.args.hidden.now)

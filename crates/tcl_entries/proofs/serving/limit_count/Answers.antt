@@ -17,4 +17,4 @@ pub returns-clause-acts : goal.returns-clause-acts
 returns-clause-acts c = limit_set c.args.tree.now c.set_limit_at.new.self c.args.place c.args.limit c.empty.result c.empty.ensures (λ p n at is. sym (ap (λ (m : Node Own). m.root) (c.node.ensures p n at is)) ∙ c.if-node.false) (subst (λ (n : ℕ). n ≤ most_steps) c.unwrap_or.ensures c.if-unwrap_or-gt-MOST_STEPS.false) c.set_limit_at.ensures.limited
 
 pub returns-clause-level : goal.returns-clause-level
-returns-clause-level c = limited_level c.args.tree.now c.set_limit_at.new.self c.args.place c.args.limit c.set_limit_at.ensures.marks c.set_limit_at.ensures.keys c.requires (λ p n at is. sym (ap (λ (m : Node Own). m.root) (c.node.ensures p n at is)) ∙ c.if-node.false) c.set_limit_at.ensures.limited
+returns-clause-level c = limited_level c.args.tree.now c.set_limit_at.new.self c.args.place c.args.limit c.set_limit_at.ensures.marks c.set_limit_at.ensures.keys c.set_limit_at.ensures.held c.requires (λ p n at is. sym (ap (λ (m : Node Own). m.root) (c.node.ensures p n at is)) ∙ c.if-node.false) c.set_limit_at.ensures.limited

@@ -3,7 +3,7 @@ use Rattle.tcl_run.specs.declared.entry.OwnEntry.{OwnEntry}
 use Rattle.tcl_run.specs.Entering.{entry_of}
 use Rattle.tcl_run.specs.Runs.{EvaluatesAt}
 use Rattle.tcl_run.proofs.Keeping.{level_loses, steady_loses}
-use Rattle.tcl_run.proofs.Steady.{level-refl}
+use Rattle.tcl_run.proofs.Steady.{here-refl, level_here, level-refl}
 use Rattle.tcl_language.specs.Table.{serve}
 use Rattle.tcl_entries.proofs.Carried.{serves}
 use Rattle.tcl_entries.proofs.serving.serve.Goals as goal
@@ -58,3 +58,21 @@ returns-in-Create-clause-keeps g c = steady_loses _ c.create_named.ensures.stead
 
 pub returns-in-Ask-clause-keeps : goal.returns-in-Ask-clause-keeps
 returns-in-Ask-clause-keeps g c = level_loses _ (level-refl c.args.tree.now)
+
+pub returns-in-SetAlias-clause-here : goal.returns-in-SetAlias-clause-here
+returns-in-SetAlias-clause-here g c = level_here c.args.tree.now c.set_alias.new.tree c.args.place c.set_alias.ensures.level
+
+pub returns-in-ClearAlias-clause-here : goal.returns-in-ClearAlias-clause-here
+returns-in-ClearAlias-clause-here g c = level_here c.args.tree.now c.clear_alias.new.tree c.args.place c.clear_alias.ensures.level
+
+pub returns-in-Hide-clause-here : goal.returns-in-Hide-clause-here
+returns-in-Hide-clause-here g c = level_here c.args.tree.now c.hide.new.tree c.args.place c.hide.ensures.level
+
+pub returns-in-Expose-clause-here : goal.returns-in-Expose-clause-here
+returns-in-Expose-clause-here g c = level_here c.args.tree.now c.expose.new.tree c.args.place c.expose.ensures.level
+
+pub returns-in-SetCountLimit-clause-here : goal.returns-in-SetCountLimit-clause-here
+returns-in-SetCountLimit-clause-here g c = level_here c.args.tree.now c.limit_count.new.tree c.args.place c.limit_count.ensures.level
+
+pub returns-in-Ask-clause-here : goal.returns-in-Ask-clause-here
+returns-in-Ask-clause-here g c = here-refl c.args.tree.now c.args.place

@@ -27,7 +27,7 @@ returns-in-Ok-clause-acts c = renaming_done c.args.tree.now c.set_alias_at.new.s
     c.in-Ok.ensures.set
 
 pub returns-in-Ok-clause-level : goal.returns-in-Ok-clause-level
-returns-in-Ok-clause-level c = named_level c.args.tree.now c.set_alias_at.new.self c.args.place (λ own. tree.named own c.in_ok-kept.kept (command.Alias c.in_ok-clone.field-0)) c.in-Ok.ensures.marks c.in-Ok.ensures.keys c.requires c.in-Ok.ensures.set
+returns-in-Ok-clause-level c = named_level c.args.tree.now c.set_alias_at.new.self c.args.place (λ own. tree.named own c.in_ok-kept.kept (command.Alias c.in_ok-clone.field-0)) c.in-Ok.ensures.marks c.in-Ok.ensures.keys c.in-Ok.ensures.held c.requires c.in-Ok.ensures.set
 
 pub returns-in-Err-clause-acts : goal.returns-in-Err-clause-acts
 returns-in-Err-clause-acts c = renaming_refused c.args.tree.now c.set_alias_at.new.self c.args.place (λ own. language.named own c.args.name.now (command.Alias c.args.alias.now))

@@ -16,4 +16,4 @@ pub returns-in-Ok-clause-counted : goal.returns-in-Ok-clause-counted
 returns-in-Ok-clause-counted g c = c.run.ensures.counted c.args.limit c.in_ok-start.ensures.most
 
 pub returns-in-Err-clause-counted : goal.returns-in-Err-clause-counted
-returns-in-Err-clause-counted g c = counts_after c.args.tree.now c.run.new.tree c.mark_broken.new.self c.args.path.now c.args.limit (c.run.ensures.counted c.args.limit c.in_ok-start.ensures.most) c.mark_broken.ensures.tree
+returns-in-Err-clause-counted g c = counts_after c.args.tree.now c.run.new.tree c.mark_broken.new.self c.args.path.now c.args.limit (c.run.ensures.counted c.args.limit c.in_ok-start.ensures.most) c.mark_broken.ensures.tree c.mark_broken.ensures.keys

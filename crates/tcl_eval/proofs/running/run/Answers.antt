@@ -27,8 +27,8 @@ returns-in_err-new-clause-counted g c = λ limit is. counts_stay c.args.tree.now
 
 pub returns-clause-counted : goal.returns-clause-counted
 returns-clause-counted g c = λ limit is.
-    keeps_counts c.args.tree.now c.set_run_limit.new.self c.serve_eval-ended.new.tree c.set_run_limit-2.new.self c.args.path.now c.args.start.most limit c.args.start.own c.set_run_limit.ensures.limited
-    c.serve_eval-ended.ensures.keeps.steady (c.serve_eval-ended.ensures.held c.args.path.now (c.set_run_limit.ensures.keys c.args.path.now ∙ c.requires.place)) c.set_run_limit-2.ensures.limited is
+    keeps_counts c.args.tree.now c.set_run_limit.new.self c.serve_eval-ended.new.tree c.set_run_limit-2.new.self c.args.path.now c.args.start.most limit c.args.start.own c.set_run_limit.ensures.limited c.set_run_limit.ensures.keys
+    c.serve_eval-ended.ensures.keeps.steady (c.serve_eval-ended.ensures.held c.args.path.now (c.set_run_limit.ensures.keys c.args.path.now ∙ c.requires.place)) c.set_run_limit-2.ensures.limited c.set_run_limit-2.ensures.keys is
 
 pub returns-clause-given_up : goal.returns-clause-given_up
 returns-clause-given_up g c =

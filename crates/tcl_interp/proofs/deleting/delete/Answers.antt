@@ -2,7 +2,7 @@ use Rattle.std.proofs.Common.{◌≡◌, ◌+◌, ℕ, List, [], ◌∷◌, drop
 use Rattle.std.proofs.lemmas.Result.{err_from_is_err_and}
 use Rattle.tcl_language.specs.Interpreters as interpreters
 use Rattle.tcl_run.proofs.Keeping.{loses-trans}
-use Rattle.tcl_run.proofs.Steady.{still_running}
+use Rattle.tcl_run.proofs.Steady.{here-trans, still_running}
 use Rattle.tcl_entries.proofs.Telling.{passes}
 use Rattle.tcl_text.proofs.Items.{item_on, none_on}
 use Rattle.tcl_interp.proofs.Stepping.{leads_then, leads_end, leads_done}
@@ -16,10 +16,11 @@ paths-preserved g c =
           (λ style. interpreters.at_path c.in_ok-text.text (λ path n. interpreters.deletes_named c.in_ok-text.text path (interpreters.delete (drop (c.paths.path-index + 1) c.args.args.now)))) (λ style. interpreters.delete (drop (c.paths.path-index + 1) c.args.args.now))
           c.paths.invariant.leads (λ style. ap interpreters.delete item) (c.in_ok-delete_there.ensures.steps (λ style. interpreters.delete (drop (c.paths.path-index + 1) c.args.args.now)));
       keeps = loses-trans c.paths.invariant.keeps c.in_ok-delete_there.ensures.keeps;
+      here = here-trans c.args.tree.now c.paths.tree c.delete_there.new.tree c.args.place c.paths.invariant.here c.in_ok-delete_there.ensures.here;
     }
 
 pub delete_there-requires : goal.delete_there-requires
-delete_there-requires g c = still_running c.args.tree.now c.paths.tree c.args.place c.paths.invariant.keeps.steady c.requires
+delete_there-requires g c = still_running c.args.tree.now c.paths.tree c.args.place c.paths.invariant.here c.requires
 
 pub returns-in_err-delete_there-clause-evaluates : goal.returns-in_err-delete_there-clause-evaluates
 returns-in_err-delete_there-clause-evaluates g c =
@@ -37,3 +38,6 @@ returns-clause-evaluates g c = leads_done g.O.Outside.goes c.args.tree.now c.pat
 
 pub returns-in_err-delete_there-clause-keeps : goal.returns-in_err-delete_there-clause-keeps
 returns-in_err-delete_there-clause-keeps g c = loses-trans c.paths.invariant.keeps c.in_err-delete_there.ensures.keeps
+
+pub returns-in_err-delete_there-clause-here : goal.returns-in_err-delete_there-clause-here
+returns-in_err-delete_there-clause-here g c = here-trans c.args.tree.now c.paths.tree c.delete_there.new.tree c.args.place c.paths.invariant.here c.in_err-delete_there.ensures.here

@@ -10,7 +10,7 @@ use Rattle.tcl_interp.proofs.deleting.delete_at.Goals as goal
 
 pub returns-in-len1-up-clause-steps : goal.returns-in-len1-up-clause-steps
 returns-in-len1-up-clause-steps g c = steps_as g.O.Outside.goes c.args.tree.now c.delete_below.new.tree c.args.outside.now c.delete_below.new.outside c.args.place
-    (λ rest style. interpreters.deletes_at c.args.text.now (take (length c.args.path.now - 1) c.args.path.now, c.name-item.result) (rest style)) (λ rest style. interpreters.deletes_named c.args.text.now c.args.path.now (rest style)) c.delete_below.result
+    (λ rest style. interpreters.deletes_at (take (length c.args.path.now - 1) c.args.path.now, c.name-item.result) (rest style)) (λ rest style. interpreters.deletes_named c.args.text.now c.args.path.now (rest style)) c.delete_below.result
     (λ rest style. last_deleted c.args.text.now c.args.path.now c.name-item.result (rest style) c.in-len1-up.len_at_least c.name-item.is) c.delete_below.ensures.steps
 
 pub returns-in-empty-clause-steps : goal.returns-in-empty-clause-steps

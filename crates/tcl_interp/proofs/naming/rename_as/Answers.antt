@@ -3,6 +3,7 @@ use Rattle.tcl_language.specs.Definitions as definitions
 use Rattle.tcl_language.specs.Interpreters.{done_so, renaming}
 use Rattle.tcl_language.specs.Naming.{renamed}
 use Rattle.tcl_run.proofs.Keeping.{level_loses}
+use Rattle.tcl_run.proofs.Steady.{level_here}
 use Rattle.tcl_entries.proofs.Looks.{untrue}
 use Rattle.tcl_entries.proofs.Telling.{evaluates_as}
 use Rattle.tcl_interp.proofs.Forms.{renamed_away, renamed_other}
@@ -20,3 +21,6 @@ returns-clause-evaluates g c = evaluates_as g.O.Outside.goes c.args.tree.now c.r
 
 pub returns-clause-keeps : goal.returns-clause-keeps
 returns-clause-keeps g c = level_loses _ c.rename_to.ensures.level
+
+pub returns-clause-here : goal.returns-clause-here
+returns-clause-here g c = level_here c.args.tree.now c.rename_to.new.tree c.args.place c.rename_to.ensures.level

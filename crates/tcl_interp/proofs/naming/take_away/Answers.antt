@@ -5,6 +5,7 @@ use Rattle.tcl_language.specs.Interpreters.{done_so, renaming}
 use Rattle.tcl_language.specs.Naming.{command_name, removed}
 use Rattle.tcl_run.proofs.Endings.{Interrupts-more}
 use Rattle.tcl_run.proofs.Keeping.{level_loses}
+use Rattle.tcl_run.proofs.Steady.{level_here}
 use Rattle.tcl_entries.specs.Asking.{EndsIn}
 use Rattle.tcl_tree.specs.TreeOf.{tree_of}
 use Rattle.tcl_entries.proofs.Looks.{gets_evaluates}
@@ -20,6 +21,9 @@ returns-then-not-is_child-clause-evaluates g c = gets_evaluates g.O.Outside.goes
 
 pub returns-then-not-is_child-clause-keeps : goal.returns-then-not-is_child-clause-keeps
 returns-then-not-is_child-clause-keeps g c = level_loses _ c.remove.ensures.level
+
+pub returns-then-not-is_child-clause-here : goal.returns-then-not-is_child-clause-here
+returns-then-not-is_child-clause-here g c = level_here c.args.tree.now c.remove.new.tree c.args.place c.remove.ensures.level
 
 pub returns-in_err-name-clause-evaluates : goal.returns-in_err-name-clause-evaluates
 returns-in_err-name-clause-evaluates g c =

@@ -24,9 +24,10 @@ returns-in_err-target-clause-given_up g c = at_any_err c.from_residual.result _
 pub returns-in_err-exited-in-Some-clause-given_up : goal.returns-in_err-exited-in-Some-clause-given_up
 returns-in_err-exited-in-Some-clause-given_up g c =
     let comes = where_some (λ x. (R : core.Tree Own) → g.M.Outside.goes R c.entries.outside None (event x.0.items (In None (whole_entry x.1))) c.next_entry.new.self) c.in_ok-target.field-0 _ c.in-Some.is c.in_ok-target.ensures.comes in
+    let handed = where_some (λ x. g.M.Outside.loses c.entries.outside c.next_entry.new.self) c.in_ok-target.field-0 _ c.in-Some.is c.in_ok-target.ensures.handed in
     at_any_err c.from_residual-in_err-exited-in-Some.result _
     (given_up_within g.M.Outside.goes g.M.Outside.loses (marks_of c.args.tree.now).integers (tree_of c.args.tree.now) c.entries.tree c.args.outside.now c.entries.outside c.next_entry.new.self c.live_through.new.outside c.in-Some.target.items (whole_entry c.in-Some.entry)
-    (ap (λ (m : Marks). m.integers) c.entries.invariant.1.marks) c.entries.invariant.0 comes c.in_err-exited-in-Some.ensures.given_up)
+    (ap (λ (m : Marks). m.integers) c.entries.invariant.1.marks) c.entries.invariant.0 comes handed c.in_err-exited-in-Some.ensures.given_up)
 
 pub returns-in_err-exited-in-Some-clause-steady : goal.returns-in_err-exited-in-Some-clause-steady
 returns-in_err-exited-in-Some-clause-steady g c = steady-trans c.args.tree.now c.entries.tree c.live_through.new.tree c.entries.invariant.1 c.live_through.ensures.steady
@@ -35,7 +36,7 @@ pub returns-then-is_some-clause-lived : goal.returns-then-is_some-clause-lived
 returns-then-is_some-clause-lived g c =
     let comes = where_some (λ x. (R : core.Tree Own) → g.M.Outside.goes R c.entries.outside None (event x.0.items (In None (whole_entry x.1))) c.next_entry.new.self) c.in_ok-target.field-0 _ c.in-Some.is c.in_ok-target.ensures.comes in
     goes_on g.M.Outside.goes (marks_of c.args.tree.now).integers (tree_of c.args.tree.now) (tree_of c.live_through.new.tree) c.entries.tree c.args.outside.now c.entries.outside c.next_entry.new.self c.live_through.new.outside c.in-Some.target.items (whole_entry c.in-Some.entry) _
-    (ap (λ (m : Marks). m.integers) c.entries.invariant.1.marks) c.entries.invariant.0 comes c.in_ok-exited-in-Some.ensures.serves
+    (ap (λ (m : Marks). m.integers) c.entries.invariant.1.marks) c.entries.invariant.0 comes c.in_ok-exited-in-Some.ensures.comes
 
 pub returns-then-is_some-clause-steady : goal.returns-then-is_some-clause-steady
 returns-then-is_some-clause-steady g c = steady-trans c.args.tree.now c.entries.tree c.live_through.new.tree c.entries.invariant.1 c.live_through.ensures.steady
@@ -44,7 +45,7 @@ pub entries-preserved : goal.entries-preserved
 entries-preserved g c =
     let comes = where_some (λ x. (R : core.Tree Own) → g.M.Outside.goes R c.entries.outside None (event x.0.items (In None (whole_entry x.1))) c.next_entry.new.self) c.in_ok-target.field-0 _ c.in-Some.is c.in_ok-target.ensures.comes in
     let lived = goes_on g.M.Outside.goes (marks_of c.args.tree.now).integers (tree_of c.args.tree.now) (tree_of c.live_through.new.tree) c.entries.tree c.args.outside.now c.entries.outside c.next_entry.new.self c.live_through.new.outside c.in-Some.target.items (whole_entry c.in-Some.entry) _
-    (ap (λ (m : Marks). m.integers) c.entries.invariant.1.marks) c.entries.invariant.0 comes c.in_ok-exited-in-Some.ensures.serves in (
+    (ap (λ (m : Marks). m.integers) c.entries.invariant.1.marks) c.entries.invariant.0 comes c.in_ok-exited-in-Some.ensures.comes in (
       subst (λ x. Lived g.M.Outside.goes (language (marks_of c.args.tree.now).integers) (tree_of c.args.tree.now) c.args.outside.now (tree_of c.live_through.new.tree) c.live_through.new.outside x) (not_exited _ (sym c.is_some.ensures ∙ c.if-is_some.false)) lived,
       steady-trans c.args.tree.now c.entries.tree c.live_through.new.tree c.entries.invariant.1 c.live_through.ensures.steady,
     )

@@ -1,19 +1,15 @@
+use Rattle.std.proofs.Common.{refl}
+use Rattle.tcl_run.proofs.Steady.{steady-refl}
 use Rattle.tcl_run.specs.Entering.{whole_entry}
-use Rattle.tcl_open_moves.proofs.Moving.{gives_up_in, serves}
+use Rattle.tcl_tree.specs.TreeOf.{marks_of, tree_of}
+use Rattle.tcl_open_moves.proofs.Moving.{comes_served, comes_to_nobody, err_more, gives_up_nowhere, gives_up_there}
 use Rattle.tcl_eval.proofs.Starting.{at_any_err}
 use Rattle.tcl_open_moves.proofs.moves.live_through.Goals as goal
 
-pub returns-in_err-notify-clause-given_up : goal.returns-in_err-notify-clause-given_up
-returns-in_err-notify-clause-given_up g c = at_any_err c.from_residual.result _
-    (gives_up_in g.M.Outside.goes g.M.Outside.loses c.args.tree.now c.enter-ended.new.tree c.args.outside.now c.enter-ended.new.outside c.notify.new.self c.as_slice-path.result.now c.args.target.items (whole_entry c.args.entry) c.enter-ended.result
-    c.as_slice-path.ensures.value c.enter-ended.ensures.runs c.notify.ensures.lost)
+pub returns-in-Some-clause-comes : goal.returns-in-Some-clause-comes
+returns-in-Some-clause-comes g c =
+    comes_served g.M.Outside.goes (marks_of c.args.tree.now).integers (tree_of c.args.tree.now) (tree_of c.live_in.new.tree) c.args.outside.now c.live_in.new.outside c.as_slice-path.result.now c.args.target.items (whole_entry c.args.entry) c.live_in.result c.as_slice-path.ensures.value c.live_in.ensures.serves
 
-pub returns-clause-given_up : goal.returns-clause-given_up
-returns-clause-given_up g c = at_any_err c.exit_of.result _
-    (gives_up_in g.M.Outside.goes g.M.Outside.loses c.args.tree.now c.enter-ended.new.tree c.args.outside.now c.enter-ended.new.outside c.notify.new.self c.as_slice-path.result.now c.args.target.items (whole_entry c.args.entry) c.enter-ended.result
-    c.as_slice-path.ensures.value c.enter-ended.ensures.runs c.notify.ensures.lost)
-
-pub returns-clause-serves : goal.returns-clause-serves
-returns-clause-serves g c =
-    serves g.M.Outside.goes g.M.Outside.loses c.args.tree.now c.enter-ended.new.tree c.args.outside.now c.enter-ended.new.outside c.notify.new.self c.as_slice-path.result.now c.args.target.items (whole_entry c.args.entry) c.enter-ended.result
-    c.exit_of.result c.as_slice-path.ensures.value c.exit_of.ensures c.enter-ended.ensures.runs c.in_ok-notify.ensures.told
+pub returns-in-Some-clause-given_up : goal.returns-in-Some-clause-given_up
+returns-in-Some-clause-given_up g c =
+    err_more c.live_in.result _ _ (λ h. gives_up_there g.M.Outside.goes g.M.Outside.loses (marks_of c.args.tree.now).integers (tree_of c.args.tree.now) c.args.outside.now c.live_in.new.outside c.as_slice-path.result.now c.args.target.items (whole_entry c.args.entry) c.as_slice-path.ensures.value h) c.live_in.ensures.given_up

@@ -1,6 +1,6 @@
 use Rattle.tcl_language_laws.specs.Language.{language}
 use Rattle.tcl_language.specs.Safety.{is_modest}
-use Rattle.tcl_run_laws.proofs.BudgetWholes.{counts, depths, limits, own_limit, root_count, steps, stops, within}
+use Rattle.tcl_run_laws.proofs.BudgetWholes.{counts, depths, limits, own_limit, root_count, spared_depths, steps, stops, within}
 use Rattle.tcl_run_laws.proofs.budgets.scripts_keep_budgets.Goals as goal
 
 pub returns : goal.returns
@@ -12,5 +12,6 @@ returns d style T V p s n B e outs w fine = record {
   within = within (language style) T V p s n B e outs w;
   stops = stops (language style) T V p s n B e outs w;
   limits = limits (language style) T V p s n B e outs w fine is_modest (d.safe_scripts_set_no_limit.ensures style);
+  spared_depths = spared_depths (language style) T V p s n B e outs w fine;
   depths = depths (language style) T V p s n B e outs w fine;
 }
