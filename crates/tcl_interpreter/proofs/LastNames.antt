@@ -65,5 +65,5 @@ straight_leads at down n t within is most b up =
     let split : take k at ++ drop k at ≡ at = take-append-drop k at in
     let names : falls n at ≡ drop k at = sym (ap (falls n) split) ∙ falls_behind n (take k at) (drop k at) size in
     let w = way_leads (drop k at) down (take k at) t (is ∙ ap (λ x. together x down) names) (subst (λ x. t ≤ length x) names most) in
-    let above : b ≡ take k at = same_Some (sym up ∙ rise_is n at within) in
+    let above : b ≡ take k at = same_Some b (take (length at - n) at) (sym up ∙ rise_is n at within) in
     (w.0, ap (λ p. rise (n - t) p) (sym split) ∙ ap (λ m. rise (m - t) (take k at ++ drop k at)) (sym size) ∙ w.1, w.2 ∙ ap (λ x. x ++ down) (sym above))
