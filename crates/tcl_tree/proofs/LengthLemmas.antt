@@ -20,8 +20,8 @@ level_is h root s (n ∷ p) k j e = by (child_in h k n) refl e (λ c. level_is h
     by : (o : Option ℕ) → child_in h k n ≡ o → option_and_then (λ c. follow h c p) o ≡ Some j
         → ((c : ℕ) → follow h c p ≡ Some j → level_in h j ≡ level_in h c + length p)
         → level_in h j ≡ level_in h k + length (n ∷ p)
-    by None f g below = let x : None ≡ Some j = g in cc
-    by (Some c) f g below = let a = s.levels k n c f in let b = below c g in omega arith
+    by None f g onward = let x : None ≡ Some j = g in cc
+    by (Some c) f g onward = let a = s.levels k n c f in let b = onward c g in omega arith
 
 -- so no path is longer than a number of the machine
 short_path : (t : Table) (p : Path) (k : ℕ) → key_of t p ≡ Some k
