@@ -55,6 +55,20 @@ module _ {O : Type 0} where
   steps_within c [] = omega arith
   steps_within c (ev ∷ τ) = steps_kept (strip c ev.place) (strip ev.place c) ev.what (view c τ) (steps_of τ) (steps_within c τ)
 
+  steps_before : (σ τ : List (Event O)) → steps_of σ ≤ steps_of (σ ++ τ)
+  steps_before [] τ = omega arith
+  steps_before (ev ∷ σ) τ = more ev.what (steps_of σ) (steps_of (σ ++ τ)) (steps_before σ τ)
+    where
+      more : (x : What O) (m n : ℕ) → m ≤ n → paid x m ≤ paid x n
+      more Charged m n le = omega (arith, le)
+      more x m n le = le
+
+  pub steps_until : (c : Place) (σ τ : List (Event O)) (m : ℕ) → steps_of (σ ++ τ) ≤ m → steps_of (view c σ) ≤ m
+  steps_until c σ τ m le =
+      let a : steps_of (view c σ) ≤ steps_of σ = steps_within c σ in
+      let b : steps_of σ ≤ steps_of (σ ++ τ) = steps_before σ τ in
+      omega (arith, le)
+
   not_nil : {A : Type 0} (b : List (Event O)) (ev : Event O) (later : List (Event O)) → b ++ ev ∷ later ≡ [] → A
   not_nil [] ev later e = cc
   not_nil (y ∷ b) ev later e = cc

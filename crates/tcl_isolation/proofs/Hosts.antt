@@ -1,5 +1,5 @@
 -- A host of which nobody asks anything.
-use Rattle.std.proofs.Common.{◌≡◌, List, [], ◌∷◌, ◌++◌, Option, Some, None, refl, ◌∙◌, subst}
+use Rattle.std.proofs.Common.{◌≡◌, ℕ, List, [], ◌∷◌, ◌++◌, Option, Some, None, refl, ◌∙◌, subst}
 use Rattle.tcl_core.specs.Endings.{Completion, Reply}
 use Rattle.tcl_core.specs.Entries.{Entry}
 use Rattle.tcl_core.specs.Entries.Entry.{AskHost}
@@ -7,6 +7,7 @@ use Rattle.tcl_core.specs.Laws.{NoLeaving, turn}
 use Rattle.tcl_core.specs.Laws.Turn.{Enters}
 use Rattle.tcl_core.specs.Paths.{Path, Place, Height, rise_to}
 use Rattle.tcl_core.specs.Programs.{Table, Wait}
+use Rattle.tcl_core.specs.Runs.{gone_from}
 use Rattle.tcl_core.specs.Execution.{Chain, Crossings, Open, answers_to, before, calls_after, event, hears, more, none, passing}
 use Rattle.tcl_core.specs.Trees.{Event, Tree, What, effect}
 use Rattle.tcl_core.specs.Trees.What.{Out, In, Done, Back, Refused, Unfound}
@@ -21,24 +22,24 @@ use Rattle.tcl_isolation.proofs.Watching.{life}
 use Rattle.tcl_isolation.proofs.Untouching.{AreUnheard, Unheard, nothing_comes}
 
 module _ {S : Type 0} (step : S → Request → HostReply → S → Type 0) where
-  out_by : (o : S) (s : Wait) (h : Height) (down : Path) (i : Entry) (u : S) → hosted_by step o s (Out h down i) u → u ≡ o
-  out_by o None h down i u e = e
-  out_by o (Some (None, AskHost q, d)) h down i u e = e
-  out_by o (Some (None, _, d)) h down i u e = e
-  out_by o (Some (Some n, j, d)) h down i u e = e
+  out_by : (g : Option ℕ) (o : S) (s : Wait) (h : Height) (down : Path) (i : Entry) (u : S) → hosted_by step g o s (Out h down i) u → u ≡ o
+  out_by g o None h down i u e = e
+  out_by g o (Some (None, AskHost q, d)) h down i u e = e
+  out_by g o (Some (None, _, d)) h down i u e = e
+  out_by g o (Some (Some n, j, d)) h down i u e = e
 
-  done_by : (o : S) (s : Wait) (h : Height) (r : Reply) (u : S) → hosted_by step o s (Done h r) u → u ≡ o
-  done_by o None h r u e = e
-  done_by o (Some (None, AskHost q, d)) h r u e = e
-  done_by o (Some (None, _, d)) h r u e = e
-  done_by o (Some (Some n, j, d)) h r u e = e
+  done_by : (g : Option ℕ) (o : S) (s : Wait) (h : Height) (r : Reply) (u : S) → hosted_by step g o s (Done h r) u → u ≡ o
+  done_by g o None h r u e = e
+  done_by g o (Some (None, AskHost q, d)) h r u e = e
+  done_by g o (Some (None, _, d)) h r u e = e
+  done_by g o (Some (Some n, j, d)) h r u e = e
 
   -- a host hands in no entry that could find nobody
-  stray_by : (o : S) (s : Wait) (t : Path) (i : Entry) (c : Completion) (u : S) → hosted_by step o s (Unfound t i c) u → Prim.⊥
-  stray_by o None t i c u e = e
-  stray_by o (Some (None, AskHost q, d)) t i c u e = e
-  stray_by o (Some (None, _, d)) t i c u e = e
-  stray_by o (Some (Some n, j, d)) t i c u e = e
+  stray_by : (g : Option ℕ) (o : S) (s : Wait) (t : Path) (i : Entry) (c : Completion) (u : S) → hosted_by step g o s (Unfound t i c) u → Prim.⊥
+  stray_by g o None t i c u e = e
+  stray_by g o (Some (None, AskHost q, d)) t i c u e = e
+  stray_by g o (Some (None, _, d)) t i c u e = e
+  stray_by g o (Some (Some n, j, d)) t i c u e = e
 
   passed : (a : Option Place) (T : Tree Own) (o : S) (s : Wait) (ev : Event Own) (u : S) → (hosted_at step T o s ev u → u ≡ o) → passing a (hosted_at step) T o s ev u → u ≡ o
   passed None T o s ev u f e = f e
@@ -49,11 +50,11 @@ module _ {S : Type 0} (step : S → Request → HostReply → S → Type 0) wher
   within q (Some a) T o s ev u e f g = g
 
   still : (T : Tree Own) (o : S) (s : Wait) (p : Place) (x : What Own) (u : S) → Unheard p x → hears (hosted step) T o s p x u → u ≡ o
-  still T o s p (Out h down i) u f t = passed (rise_to h p) T o s (event p (Out h down i)) u (out_by o s h down i u) t
-  still T o s p (Done h r) u f t = passed (rise_to h p) T o s (event p (Done h r)) u (done_by o s h r u) t
+  still T o s p (Out h down i) u f t = passed (rise_to h p) T o s (event p (Out h down i)) u (out_by (gone_from s T p) o s h down i u) t
+  still T o s p (Done h r) u f t = passed (rise_to h p) T o s (event p (Done h r)) u (done_by (gone_from s T p) o s h r u) t
   still T o s p (In h i) u f t = within (rise_to h p) (rise_to h p) T o s (event p (In h i)) u refl f t
   still T o s p (Back h a) u f t = within (rise_to h p) (rise_to h p) T o s (event p (Back h a)) u refl f t
-  still T o s p (Unfound q i c) u f t = absurd (stray_by o s q i c u t)
+  still T o s p (Unfound q i c) u f t = absurd (stray_by (gone_from s T p) o s q i c u t)
   still T o s p (Refused m None) u f t = absurd t
   still T o s p (Refused m (Some n)) u f t = t
   still T o s p _ u f t = t
@@ -75,7 +76,7 @@ module _ {S : Type 0} (step : S → Request → HostReply → S → Type 0) wher
   -- ## Entries find somebody
 
   found_so : (T : Tree Own) (o : S) (s : Wait) (p : Place) (x : What Own) (u : S) → hears (hosted step) T o s p x u → IsFound x
-  found_so T o s p (Unfound t i c) u g = stray_by o s t i c u g
+  found_so T o s p (Unfound t i c) u g = stray_by (gone_from s T p) o s t i c u g
   found_so T o s p x u g = tt
 
   all_found : {cs ds : Open} (T V : Tree Own) (o z : S) (τ : List (Event Own)) → Chain (Crossings (hosted step)) cs T o τ ds V z → AreFound τ

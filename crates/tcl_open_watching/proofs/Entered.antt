@@ -1,12 +1,11 @@
 -- A run with a recorder, and the run without it.
-use Rattle.std.proofs.Common.{◌≡◌, ℕ, ◌+◌, true, false, None, Some, ap}
+use Rattle.std.proofs.Common.{◌≡◌, ℕ, ◌+◌, true, false, None, Some}
 use Rattle.std.specs.Prelude.{is_some}
 use Rattle.tcl_core.specs.Endings.{Reply}
 use Rattle.tcl_core.specs.Entries.Entry.{Eval}
 use Rattle.tcl_core.specs.Execution.{event}
 use Rattle.tcl_core.specs.Lives.{limited}
 use Rattle.tcl_core.specs.Paths.{Path, Text}
-use Rattle.tcl_core.specs.Runs.{entering}
 use Rattle.tcl_core.specs.Trees.{Event, Node, Tree}
 use Rattle.tcl_core.specs.Trees.What.{Done, In}
 use Rattle.tcl_eval.specs.Running.{IsOpenRun, root_count}
@@ -18,10 +17,8 @@ use Rattle.tcl_recorder.proofs.Watched.{unwatched}
 use Rattle.tcl_recorder.specs.Laws.{WatchedEntry}
 use Rattle.tcl_recorder.specs.Recording.{noted, recorded}
 use Rattle.tcl_recorder.specs.declared.recorder.Recorder.{Recorder}
-use Rattle.tcl_run.proofs.Leads.{at_prog}
 use Rattle.tcl_run.proofs.Steady.{stands, still_stands}
 use Rattle.tcl_run.specs.Outsides.{Going}
-use Rattle.tcl_run.specs.Runs.{Comes}
 use Rattle.tcl_text.specs.declared.integer.Integers.{Integers}
 use Rattle.tcl_tree.specs.Own.{Own}
 use Rattle.tcl_tree.specs.TreeOf.{tree_of, marks_of}
@@ -44,12 +41,9 @@ module _ {S : Type 0} (goes : Going S) (old : Table) (o : Recorder S) (path : Pa
   abbrev pub Opened : OpenEnd → Type 0
   Opened e = IsOpenRun (recorded goes) old (noted o first) path script (root_count old + limit) new z e
 
-  -- the run from its entry on
-  entered : (e : OpenEnd) → is_some (tree_of old path) ≡ true → (run : Opened e) → Comes (recorded goes) (language style) T0 (noted o first) path (entering (language style) (T0 path) (Eval script)) run.during run.between run.reply
-  entered e there run =
-      let n : (n : Node Own) × (tree_of old path ≡ Some n) = stands (tree_of old path) there in
-      let m : (m : Node Own) × (T0 path ≡ Some m) = still_stands (tree_of old) (Some (root_count old + limit)) path n.0 n.1 in
-      at_prog (ap (λ x. entering (language style) x (Eval script)) m.1) run.runs
+  -- who stands at the path
+  here : is_some (tree_of old path) ≡ true → (n : Node Own) × (T0 path ≡ Some n)
+  here there = let n = stands (tree_of old path) there in still_stands (tree_of old) (Some (root_count old + limit)) path n.0 n.1
 
   -- nothing is missing from the record then
   pub unbroken : (e : OpenEnd) → (run : Opened e) → run.between.incomplete ≡ false
@@ -57,7 +51,7 @@ module _ {S : Type 0} (goes : Going S) (old : Table) (o : Recorder S) (path : Pa
 
   -- what is recorded of it
   pub entry : (e : OpenEnd) → is_some (tree_of old path) ≡ true → (run : Opened e) → WatchedEntry goes (language style) T0 o path (Eval script) run.during (noted run.between (last run.reply)) run.reply
-  entry e there run = watched_entry goes (language style) T0 run.during o run.between path (Eval script) run.reply (unbroken e run) (entered e there run)
+  entry e there run = let n = here there in watched_entry goes (language style) T0 run.during o run.between path (Eval script) run.reply n.0 n.1 (unbroken e run) run.runs
 
   -- and the run without
   pub plain : (e : OpenEnd) → Opened e → IsOpenRun goes old o.outside path script (root_count old + limit) new z.outside e

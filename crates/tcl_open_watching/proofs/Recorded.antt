@@ -1,7 +1,7 @@
 -- What the laws of isolation say of a run that was recorded.
 use Rattle.std.proofs.Common.{◌≡◌, ◌∙◌, ℕ, ◌≤◌, ◌+◌, Option, Some, sym, ap, subst}
 use Rattle.tcl_core.specs.Entries.Entry.{Eval}
-use Rattle.tcl_core.specs.Laws.{ArePlain, IsSafeAt, IsSafeBelow}
+use Rattle.tcl_core.specs.Laws.{ArePlain, IsSafeAt, IsSafeBelow, after}
 use Rattle.tcl_core.specs.Lives.{React, count_at, limit_at, limited, outcome_of, outs_of}
 use Rattle.tcl_core.specs.Lives.Outcome.{Finished}
 use Rattle.tcl_core.specs.Paths.{Path, Text}
@@ -11,13 +11,14 @@ use Rattle.tcl_eval.specs.Running.{root_count, root_limit}
 use Rattle.tcl_eval.specs.declared.running.OpenEnd.{OpenEnd}
 use Rattle.tcl_isolation.proofs.Until.{does_until}
 use Rattle.tcl_isolation.proofs.Watching as watching
-use Rattle.tcl_isolation.specs.Laws.{DoesUntil, IsWithin, Suffices}
+use Rattle.tcl_isolation.proofs.Dropping as drops
+use Rattle.tcl_isolation.specs.Laws.{DoesJust, DoesUntil, IsWithin, Suffices}
 use Rattle.tcl_isolation.specs.Scripts as laws
 use Rattle.tcl_isolation.specs.Visits.{IsBelowTheTop}
 use Rattle.tcl_language.specs.Safety.{plain}
 use Rattle.tcl_language_laws.specs.Language.{language}
 use Rattle.tcl_replay.proofs.Below.{below_at, below_same}
-use Rattle.tcl_open_watching.specs.OpenWatched.{IsOpenRecorded}
+use Rattle.tcl_open_watching.specs.OpenWatched.{IsOpenDeletion, IsOpenRecorded, ReactsToDrop}
 use Rattle.tcl_recorder.specs.Records.{RecordView}
 use Rattle.tcl_replay.specs.Watched.{AsksTheHostNothing, CountStaysWithin, Reacts, ReactsSo, ReactsUntil}
 use Rattle.tcl_run.specs.Outsides.{Going}
@@ -75,6 +76,14 @@ module _ {S : Type 0} (goes : Going S) (old : Table) (o : S) (path : Path) (scri
   reacts_until w f early late whole u m le =
       subst (λ (A : Tree Own). DoesUntil (language style) A early late m) (at_first f)
       (does_until goes (language style) T0 w.during o w.between path (Eval script) c r.crossings w.reply w.node m w.visited f (stood w f) (enough w m f le) early late whole u)
+
+  pub reacts_to_drop : IsOpenDeletion goes old o path script limit c r new z e → ReactsToDrop goes old o path script limit c r new z e
+  reacts_to_drop d f u = (
+    d,
+    λ m le.
+        let h = drops.reacts_to_drop goes (language style) T0 d.during o d.between path (Eval script) c r.crossings d.reply d.node m d.visited f (same_first f ∙ d.stood) u le in
+        (h.0, h.1, subst (λ (A : Tree Own). DoesJust (language style) A (moves_of r.crossings) m h.0 (outs_of r.crossings) (at (after d.visited.first T0) c)) (at_first f) h.2),
+  )
 
   safe_trees : IsSafeBelow T0
   safe_trees = (orderly_relimited (Some (root_count old + limit)) (tree_of old) (orderly old)).safe

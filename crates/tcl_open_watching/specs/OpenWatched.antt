@@ -1,23 +1,25 @@
 -- What contracts see of an evaluation that is watched over any outside.
-use Rattle.std.specs.Prelude.{◌≡◌, ℕ, ◌+◌, true, false, Bool, List, [], Some, None, Result, Ok}
+use Rattle.std.specs.Prelude.{◌≡◌, ℕ, ◌≤◌, ◌+◌, true, false, Bool, List, [], Some, None, Result, Ok}
 use Rattle.std.specs.Prelude.{Err}
 use Rattle.tcl_core.specs.Endings.{Reply}
 use Rattle.tcl_core.specs.Entries.Entry.{Eval}
-use Rattle.tcl_core.specs.Execution.{Chain, Crossings, before, event}
-use Rattle.tcl_core.specs.Laws.{IsSpared}
-use Rattle.tcl_core.specs.Lives.{end_at, limited}
+use Rattle.tcl_core.specs.Execution.{event}
+use Rattle.tcl_core.specs.Laws.{IsOpenOrDone, IsUnended, after}
+use Rattle.tcl_core.specs.Lives.{Outcome, end_at, limited, outs_of}
 use Rattle.tcl_core.specs.Paths.{Path, Text}
-use Rattle.tcl_core.specs.Runs.{Runs, Visits}
-use Rattle.tcl_core.specs.Trees.{Event, Node, Tree, effect}
+use Rattle.tcl_core.specs.Trees.{Event, Node, Tree, at, effect}
 use Rattle.tcl_core.specs.Trees.What.{Done, In, Limited}
+use Rattle.tcl_core.specs.Views.{moves_of, steps_of, view}
 use Rattle.tcl_eval.specs.Running.{IsGivenUp, IsOpenRun, open_ending, root_count, root_limit}
 use Rattle.tcl_eval.specs.declared.running.OpenEnd.{OpenEnd}
 use Rattle.tcl_eval.specs.declared.running.Refused.{Refused}
 use Rattle.tcl_eval.specs.declared.running.Refused.TheVariants as refused
-use Rattle.tcl_isolation.specs.Visits.{WatchedVisit, visit}
+use Rattle.tcl_isolation.specs.Laws.{DoesJust}
+use Rattle.tcl_isolation.specs.Visits.{DroppedVisit, IsBelowTheTop, WatchedVisit}
 use Rattle.tcl_language_laws.specs.Language.{language}
 use Rattle.tcl_recorder.specs.Recording.{noted, recorded}
 use Rattle.tcl_recorder.specs.Records.{RecordView}
+use Rattle.tcl_open_watching.specs.declared.watching.OpenDeletion.{OpenDeletion}
 use Rattle.tcl_open_watching.specs.declared.watching.OpenUnwatched.{OpenUnwatched}
 use Rattle.tcl_open_watching.specs.declared.watching.OpenUnwatched.TheVariants as unwatched
 use Rattle.tcl_replay.specs.Watched.{recorder_of}
@@ -33,7 +35,7 @@ use Rattle.tcl_tree.specs.declared.tree.Tree.{Tree as Table}
 -- deleted or not
 abbrev pub answer_if : Bool → OpenEnd → RecordView →
     Result (OpenEnd × RecordView) OpenUnwatched
-answer_if true e r = Err (unwatched.Deleted e)
+answer_if true e r = Err (unwatched.Deleted (record { end = e; until = r }))
 answer_if false e r = Ok (e, r)
 
 abbrev pub answer_of : Result OpenEnd Refused → RecordView → Bool →
@@ -44,19 +46,20 @@ answer_of (Err f) r deleted = Err (unwatched.Refused f)
 -- what is said of the end of a run that came to its end
 abbrev pub IfEnds : Result (OpenEnd × RecordView) OpenUnwatched → (OpenEnd → Type 0) → Type 0
 IfEnds (Ok r) P = P r.0
-IfEnds (Err (unwatched.Deleted e)) P = P e
+IfEnds (Err (unwatched.Deleted d)) P = P d.end
 IfEnds (Err (unwatched.Refused f)) P = Unit {0}
 
--- where the watched interpreter was deleted in it
-abbrev pub IfDeleted : Result (OpenEnd × RecordView) OpenUnwatched → (OpenEnd → Type 0) → Type 0
+-- where the watched interpreter was deleted in it, of the end and of the record until then
+abbrev pub IfDeleted : Result (OpenEnd × RecordView) OpenUnwatched → (OpenDeletion → Type 0) →
+    Type 0
 IfDeleted (Ok r) P = Unit {0}
-IfDeleted (Err (unwatched.Deleted e)) P = P e
+IfDeleted (Err (unwatched.Deleted d)) P = P d
 IfDeleted (Err (unwatched.Refused f)) P = Unit {0}
 
 -- of the refusal where there was none
 abbrev pub IfRefused : Result (OpenEnd × RecordView) OpenUnwatched → (Refused → Type 0) → Type 0
 IfRefused (Ok r) P = Unit {0}
-IfRefused (Err (unwatched.Deleted e)) P = Unit {0}
+IfRefused (Err (unwatched.Deleted d)) P = Unit {0}
 IfRefused (Err (unwatched.Refused f)) P = P f
 
 -- ## The run and its record
@@ -85,21 +88,35 @@ abbrev pub IsOpenRecord : {S : Type 0} → Going S → Table → S → Path → 
 IsOpenRecord goes old o path script limit watched r new z e = (r.watched ≡ watched) ×
     IsOpenRecorded goes old o path script limit watched r.crossings new z e
 
--- There is such a run in which the watched interpreter is dropped.
+-- The record has the crossings of such a run in which the watched interpreter is dropped, it or one
+-- above it, up to where first it is.
 pub record IsOpenDeletion {S : Type 0} (goes : Going S) (old : Table) (o : S) (path : Path)
-    (script : Text) (limit : ℕ) (watched : Path) (new : Table) (z : S) (e : OpenEnd) : Type 0 where
+    (script : Text) (limit : ℕ) (watched : Path) (r : RecordView) (new : Table) (z : S)
+    (e : OpenEnd) : Type 0 where
   pub during : Tree Own
   pub between : S
   pub reply : Reply
-  pub events : List (Event Own)
-  pub visits : Visits (language (marks_of old).integers) (Runs (language (marks_of old).integers))
-      (before (limited limit (tree_of old)) (visit path (Eval script) events reply)) None path
-      (Eval script) (before during []) (Some reply)
-  pub outside : Chain (Crossings goes) [] (limited limit (tree_of old)) o events [] during between
-  pub dropped : IsSpared watched (visit path (Eval script) events reply) → Prim.⊥
+  pub visited : DroppedVisit goes (language (marks_of old).integers)
+      (limited limit (tree_of old)) o path (Eval script) watched r.crossings during between reply
   pub told : goes during between None (event path (Done None reply)) z
+  pub same : r.watched ≡ watched
+  pub node : Node Own
+  pub stood : tree_of old watched ≡ Some node
   pub after : tree_of new ≡ effect [] (Limited (root_limit old)) during
   pub ends : end_at path reply ≡ open_ending e
+
+-- Where it was deleted, below the top, and no entry was ended from outside until then: with the
+-- moves of the record until then the subtree by itself has done what it was asked for, or it waits
+-- at a call that is open; it tells what the record tells, and leaves the subtree that stood there
+-- when it was deleted. So it is with every budget that isn't less than the steps made there until
+-- then; and it does nothing else with these moves.
+abbrev pub ReactsToDrop : {S : Type 0} → Going S → Table → S → Path → Text → ℕ → Path →
+    RecordView → Table → S → OpenEnd → Type 0
+ReactsToDrop goes old o path script limit watched r new z e = IsBelowTheTop watched →
+    IsUnended r.crossings → (d : IsOpenDeletion goes old o path script limit watched r new z e) ×
+    ((m : ℕ) → steps_of (view watched d.visited.first) ≤ m → (x : Outcome) × IsOpenOrDone x ×
+    DoesJust (language (marks_of old).integers) (at (tree_of old) watched) (moves_of r.crossings) m
+    x (outs_of r.crossings) (at (after d.visited.first (limited limit (tree_of old))) watched))
 
 -- What an evaluation answers that was recorded: memory was wanted, and it was given up on its way;
 -- or there was a run with a recorder, which was told of the entry and of its end.

@@ -8,8 +8,8 @@ ghost use Rattle.tcl_eval.specs.Running.{IsGivenUp, IsOpenRun, KeepsCounts, root
 ghost use Rattle.tcl_eval.specs.Running.{unfit};
 ghost use Rattle.tcl_eval.specs.declared.running.Refused.TheVariants.{Memory};
 ghost use Rattle.tcl_open_watching.specs.OpenWatched.{IfDeleted, IfEnds, IfRefused};
-ghost use Rattle.tcl_open_watching.specs.OpenWatched.{IsOpenDeletion, IsOpenRecord, Watches};
-ghost use Rattle.tcl_open_watching.specs.OpenWatched.{answer_of};
+ghost use Rattle.tcl_open_watching.specs.OpenWatched.{IsOpenDeletion, IsOpenRecord, ReactsToDrop};
+ghost use Rattle.tcl_open_watching.specs.OpenWatched.{Watches, answer_of};
 ghost use Rattle.tcl_open_watching.specs.declared.watching.OpenUnwatched.TheVariants as unwatched;
 ghost use Rattle.tcl_recorder.specs.Recording.{noted, recorded};
 ghost use Rattle.tcl_replay.specs.Watched.{AsksTheHostNothing, CountStaysWithin, Reacts, ReactsSo};
@@ -36,9 +36,19 @@ pub enum OpenUnwatched {
     /// 401, 402, 403, 404 or 122: there was no run, or none that came to its end.
     #[error(transparent)]
     Refused(Refused),
-    /// 411: the watched interpreter was deleted in the run, which ended so.
+    /// 411: the watched interpreter was deleted in the run.
     #[error("411: {}", WATCHED_DELETED)]
-    Deleted(OpenEnd),
+    Deleted(OpenDeletion),
+}
+
+/// What there is of an open evaluation in which the watched interpreter was deleted, it or one above
+/// it.
+#[derive(Drop)]
+pub struct OpenDeletion {
+    /// How the whole evaluation ended.
+    pub end: OpenEnd,
+    /// What crossed the boundary until the interpreter was deleted.
+    pub until: Record,
 }
 
 /// As it is printed by `{}`.
@@ -56,7 +66,8 @@ impl fmt::Debug for OpenUnwatched {
 /// # Errors
 /// 402; 403 where no interpreter stands at the path, or none at `watched`; 404; 122: they are
 /// looked for in this order, and change nothing. 401, by which the tree is broken. 411, with the
-/// end of the run, where the watched interpreter was deleted in it.
+/// end of the run and the record until then, where the watched interpreter was deleted in it, or one
+/// above it.
 pub fn open_watched<O: Outside>(
     tree: &mut Tree,
     alloc: Global,
@@ -87,8 +98,11 @@ pub fn open_watched<O: Outside>(
         (λ r. IsOpenRecord O.goes tree.old outside path.now script.now limit watched.now r.1
         tree.new result.0 r.0) }
     ensures deleted { IfDeleted result.1
-        (λ end. IsOpenDeletion O.goes tree.old outside path.now script.now limit watched.now
-        tree.new result.0 end) }
+        (λ d. IsOpenDeletion O.goes tree.old outside path.now script.now limit watched.now d.until
+        tree.new result.0 d.end) }
+    ensures reacts_to_drop { IfDeleted result.1
+        (λ d. ReactsToDrop O.goes tree.old outside path.now script.now limit watched.now d.until
+        tree.new result.0 d.end) }
     ensures reacts { IfOk result.1 (λ r. Reacts tree.old watched.now r.1.crossings tree.new) }
     ensures reacts_so { IfOk result.1 (λ r. ReactsSo tree.old watched.now r.1.crossings tree.new) }
     ensures reacts_until { IfOk result.1
@@ -183,7 +197,7 @@ fn outcome_of(
         Err(refused) => Err(OpenUnwatched::Refused(refused)),
         Ok(end) => {
             if deleted {
-                return Err(OpenUnwatched::Deleted(end));
+                return Err(OpenUnwatched::Deleted(OpenDeletion { end, until: kept }));
             }
             Ok((end, kept))
         }

@@ -2,7 +2,7 @@
 use Rattle.std.proofs.Common.{◌≡◌, ℕ, ℤ, Bool, true, false, List, ◌∷◌, ◌++◌, length, Option, Some, None, refl, sym, ap, subst, ◌∙◌}
 use Rattle.std.specs.Option.{option_map}
 use Rattle.std.specs.Prelude.{is_none, is_some, IfNone, IfSome, Result, Ok, Err}
-use Rattle.tcl_core.specs.Endings.{Completion, Reply}
+use Rattle.tcl_core.specs.Endings.{Reply}
 use Rattle.tcl_core.specs.Endings.Cause.{Over}
 use Rattle.tcl_core.specs.Endings.Reply.{Completed, Stop, Exit, Cut}
 use Rattle.tcl_core.specs.Entries.{Answer, Entry}
@@ -12,10 +12,9 @@ use Rattle.tcl_core.specs.Lives.Outcome.{Exited}
 use Rattle.tcl_core.specs.Paths.{Path, Place, Height, rise, rise_to}
 use Rattle.tcl_core.specs.Runs.{gone, is_told}
 use Rattle.tcl_core.specs.Execution.{event}
-use Rattle.tcl_core.specs.Programs.{Wait}
 use Rattle.tcl_core.specs.Trees.{Event, Move, Tree}
 use Rattle.tcl_core.specs.Trees.Move.{Enter, Come, Born, Fall}
-use Rattle.tcl_core.specs.Trees.What.{Done, In}
+use Rattle.tcl_core.specs.Trees.What.{Done}
 use Rattle.tcl_core.proofs.PathLaws.{rise_back}
 use Rattle.tcl_reactions.specs.Playing.{Answers, HandsIn, IsCut, IsNoCut, Player, last_end, past, reading, stopping, suits, telling, Tells}
 use Rattle.tcl_reactions.specs.Playing.Answers.{reads, ends, unfits, passes}

@@ -31,15 +31,15 @@ IsExitOf r o = o ≡ None
 -- Whether a move may come to the open call, so high up and for this, whose caller is gone so many
 -- levels up or stands; the outcome is that of the last entry.
 abbrev pub fits_call : Outcome → Option ℕ → Height → Entry → Move Own → Bool
-fits_call x gone h i (Come a) = may_come x gone (Some (h, i, 0)) a
-fits_call (Exited n) gone h i m = false
-fits_call x gone h i m = true
+fits_call x away h i (Come a) = may_come x away (Some (h, i, 0)) a
+fits_call (Exited n) away h i m = false
+fits_call x away h i m = true
 
 -- What is taken for whether the caller is gone is so, where that matters: after an entry that ended
 -- by an exit nothing but that exit fits, whoever is gone.
 abbrev pub IsKnown : Option ℤ → Option ℕ → Option ℕ → Type 0
-IsKnown None taken gone = taken ≡ gone
-IsKnown (Some n) taken gone = Unit {0}
+IsKnown None taken away = taken ≡ away
+IsKnown (Some n) taken away = Unit {0}
 
 -- a step more is granted where the playing goes on and one is left
 abbrev pub pays_on : {A : Type 0} → Option A → ℕ → Bool

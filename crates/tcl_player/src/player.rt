@@ -7,7 +7,7 @@ ghost use Rattle.tcl_core.specs.Lives.{outcome_of};
 ghost use Rattle.tcl_core.specs.Lives.Outcome.{Finished};
 ghost use Rattle.tcl_core.specs.Execution.{event};
 ghost use Rattle.tcl_core.specs.Paths.{Path, rise_to};
-ghost use Rattle.tcl_core.specs.Runs.{gone};
+ghost use Rattle.tcl_core.specs.Runs as runs;
 ghost use Rattle.tcl_core.specs.Trees as core;
 ghost use Rattle.tcl_core.specs.Trees.What.{Back, Done, Out};
 ghost use Rattle.tcl_player.specs.Moves.{move_of};
@@ -206,12 +206,12 @@ impl<'a> Player<'a> {
     ) -> Result<Option<&'a Move>, AllocError>
         ensures reads { IfOk result
             (λ read. IfSome read (λ m. (p : Path) (d : ℕ) →
-            IsKnown self.old.exited gone (gone d (tree_of tree.now) p) →
+            IsKnown self.old.exited gone (runs.gone d (tree_of tree.now) p) →
             GoesOn (tree_of tree.now) p d (player_of self.old) up (whole_entry entry.now)
             (move_of m.now) (player_of self.new))) }
         ensures over { IfOk result
             (λ read. IfNone read ((p : Path) (d : ℕ) →
-            IsKnown self.old.exited gone (gone d (tree_of tree.now) p) →
+            IsKnown self.old.exited gone (runs.gone d (tree_of tree.now) p) →
             IsOverBy (tree_of tree.now) p d (player_of self.old) up (whole_entry entry.now)
             (player_of self.new))) }
         ensures fewer { IfOk result

@@ -1,5 +1,5 @@
 -- The laws of boundaries.
-use Rattle.std.proofs.Common.{◌≡◌, List, [], ◌∷◌, ◌++◌, Option, Some, None, refl, sym, ◌∙◌, ap}
+use Rattle.std.proofs.Common.{◌≡◌, List, [], ◌∷◌, ◌++◌, Option, Some, None, refl, sym, ◌∙◌, ap, append-nil}
 use Rattle.tcl_core.specs.Endings.{Reply}
 use Rattle.tcl_core.specs.Endings.Reply.{Completed}
 use Rattle.tcl_core.specs.Entries.{Answer, Entry}
@@ -70,6 +70,10 @@ module _ {O : Type 0} where
 
   pub no_crossing : (c : Place) (ev : Event O) (τ : List (Event O)) → IsNoCrossing ev.what → boundary c (ev ∷ τ) ≡ boundary c τ
   no_crossing c ev τ f = no_crossing_by (strip c ev.place) (strip ev.place c) ev.what (view c τ) f
+
+  -- and so is a deletion, at the end
+  pub boundary_drop : (c : Place) (σ : List (Event O)) (d : Place) → boundary c (σ ++ event d Dropped ∷ []) ≡ boundary c σ
+  boundary_drop c σ d = boundary_append c σ (event d Dropped ∷ []) ∙ ap (λ l. boundary c σ ++ l) (no_crossing c (event d Dropped) [] tt) ∙ append-nil (boundary c σ)
 
   -- ## What is handed over, and told
 

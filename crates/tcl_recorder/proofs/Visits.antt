@@ -16,7 +16,7 @@ use Rattle.tcl_run.specs.Outsides.{Going}
 use Rattle.tcl_tree.specs.Own.{Own}
 use Rattle.tcl_recorder.specs.Laws.{KeepsAll, WatchedEntry, WatchedVisit, visit}
 use Rattle.tcl_recorder.specs.Records.{RecordView}
-use Rattle.tcl_recorder.specs.Recording.{after, fallen_after, falls, noted, noted_in, recorded, told_of, while_there}
+use Rattle.tcl_recorder.specs.Recording.{after, fallen_after, falls, noted, noted_in, noted_of, recorded, told_of, while_there}
 use Rattle.tcl_recorder.specs.declared.recorder.Recorder.{Recorder}
 use Rattle.tcl_recorder.proofs.Fates.{fate_parts, there_parts}
 use Rattle.tcl_recorder.proofs.Meeting.{AreMet, met_front, visit_met}
@@ -59,6 +59,37 @@ noted_there : (b : Bool) (r : RecordView) (ev : Event Own) → falls r.watched e
 noted_there true r ev f = after_none r
 noted_there false r ev f = ap (λ a. after r (ev ∷ while_there a r.watched [])) (sym f)
 
+-- what is recorded of an entry, of which it is noted that it comes and that it ends
+pub kept_entry : (T : Tree Own) (r k z : RecordView) (b d : Bool) (t : Place) (i : Entry) (τ : List (Event Own)) (x : Reply) → AreMet T τ →
+    k ≡ after (noted_in b r (event t (In None i))) (told_of b (noted_in b r (event t (In None i))).watched T τ) → d ≡ fallen_after b (noted_in b r (event t (In None i))).watched τ →
+    z ≡ after k (while_there d k.watched (event t (Done None x) ∷ [])) → z ≡ after r (while_there b r.watched (visit t i τ x))
+kept_entry T r k z b d t i τ x m going fate ended =
+    let first : Event Own = event t (In None i) in
+    let last : Event Own = event t (Done None x) in
+    let c : Place = r.watched in
+    let begun : noted_in b r first ≡ after r (while_there b c (first ∷ [])) = noted_there b r first refl in
+    let so : k ≡ after (after r (while_there b c (first ∷ []))) (while_there b c τ) =
+    going ∙ ap (λ (q : RecordView). after q (told_of b q.watched T τ)) begun ∙ ap (after (after r (while_there b c (first ∷ [])))) (told_there b c T τ m) in
+    let fell : d ≡ fallen_after b c τ = fate ∙ ap (λ (q : RecordView). fallen_after b q.watched τ) begun in
+    ended
+    ∙ ap (λ (q : RecordView). after q (while_there d q.watched (last ∷ []))) so
+    ∙ ap (λ a. after (after (after r (while_there b c (first ∷ []))) (while_there b c τ)) (while_there a c (last ∷ []))) fell
+    ∙ after_parts (after r (while_there b c (first ∷ []))) (while_there b c τ) (while_there (fallen_after b c τ) c (last ∷ []))
+    ∙ after_parts r (while_there b c (first ∷ [])) (while_there b c τ ++ while_there (fallen_after b c τ) c (last ∷ []))
+    ∙ sym (ap (after r) (there_visit b c t i τ x))
+
+pub fate_entry : (r : RecordView) (b d : Bool) (t : Place) (i : Entry) (τ : List (Event Own)) (x : Reply) → d ≡ fallen_after b (noted_in b r (event t (In None i))).watched τ → d ≡ fallen_after b r.watched (visit t i τ x)
+fate_entry r b d t i τ x fate = fate ∙ ap (λ (q : RecordView). fallen_after b q.watched τ) (noted_there b r (event t (In None i)) refl) ∙ sym (fate_parts b r.watched τ (event t (Done None x) ∷ []))
+
+-- an end that is told is noted
+pub told_end : (d : Bool) (k : RecordView) (V : Tree Own) (t : Place) (x : Reply) → after k (noted_of d V (event t (Done None x))) ≡ after k (while_there d k.watched (event t (Done None x) ∷ []))
+told_end true k V t x = refl
+told_end false k V t x = refl
+
+pub end_noted : (d : Bool) (k : RecordView) (V : Tree Own) (t : Place) (x : Reply) → after k (noted_of d V (event t (Done None x))) ≡ noted_in d k (event t (Done None x))
+end_noted true k V t x = sym (after_none k)
+end_noted false k V t x = refl
+
 module _ {I S : Type 0} (goes : Going S) (prog : Table Own I) (T V : Tree Own) where
   pub watched_visit : (o u w z : Recorder S) (t : Place) (i : Entry) (r : Reply) (node : Node Own) → T t ≡ Some node →
       recorded goes T o None (event t (In None i)) u → Executes (Crossings (recorded goes)) prog T u t (prog.entry i) V w r → recorded goes V w None (event t (Done None r)) z →
@@ -92,21 +123,10 @@ module _ {I S : Type 0} (goes : Going S) (prog : Table Own I) (T V : Tree Own) w
       let seen = visits (Crossings (recorded goes)) prog t i node there made in
       let met_all : AreMet T (visit t i made.events r) = visit_met prog (before T (visit t i made.events r)) t i (before V []) r seen tt in
       let met_within : AreMet T made.events = met_front T made.events (last ∷ []) met_all.1 in
-      let c : Place = o.kept.watched in
-      let begun : noted_in o.deleted o.kept first ≡ after o.kept (while_there o.deleted c (first ∷ [])) = noted_there o.deleted o.kept first refl in
-      let going : w.kept ≡ after (after o.kept (while_there o.deleted c (first ∷ []))) (while_there o.deleted c made.events) =
-      so.kept ∙ ap (λ (k : RecordView). after k (told_of o.deleted k.watched T made.events)) begun
-      ∙ ap (after (after o.kept (while_there o.deleted c (first ∷ [])))) (told_there o.deleted c T made.events met_within) in
-      let fate : w.deleted ≡ fallen_after o.deleted c made.events = so.fate ∙ ap (λ (k : RecordView). fallen_after o.deleted k.watched made.events) begun in
       record {
         events = made.events;
         visits = seen;
         outside = all.outside;
-        kept = noted_there w.deleted w.kept last refl
-            ∙ ap (λ (k : RecordView). after k (while_there w.deleted k.watched (last ∷ []))) going
-            ∙ ap (λ b. after (after (after o.kept (while_there o.deleted c (first ∷ []))) (while_there o.deleted c made.events)) (while_there b c (last ∷ []))) fate
-            ∙ after_parts (after o.kept (while_there o.deleted c (first ∷ []))) (while_there o.deleted c made.events) (while_there (fallen_after o.deleted c made.events) c (last ∷ []))
-            ∙ after_parts o.kept (while_there o.deleted c (first ∷ [])) (while_there o.deleted c made.events ++ while_there (fallen_after o.deleted c made.events) c (last ∷ []))
-            ∙ sym (ap (after o.kept) (there_visit o.deleted c t i made.events r));
-        fate = fate ∙ sym (fate_parts o.deleted c made.events (last ∷ []));
+        kept = kept_entry T o.kept w.kept (noted_in w.deleted w.kept last) o.deleted w.deleted t i made.events r met_within so.kept so.fate (noted_there w.deleted w.kept last refl);
+        fate = fate_entry o.kept o.deleted w.deleted t i made.events r so.fate;
       }

@@ -121,9 +121,9 @@ pub record UpToTheDrop : Type 0 where
 -- stands; and whether the watched interpreter was dropped.
 pub record KeepsAll {S : Type 0} (T : Tree Own) (o : Recorder S) (τ : List (Event Own))
     (z : Recorder S) : Type 0 where
-    pub whole : o.incomplete ≡ false
-    pub kept : z.kept ≡ after o.kept (told_of o.deleted o.kept.watched T τ)
-    pub fate : z.deleted ≡ fallen_after o.deleted o.kept.watched τ
+  pub whole : o.incomplete ≡ false
+  pub kept : z.kept ≡ after o.kept (told_of o.deleted o.kept.watched T τ)
+  pub fate : z.deleted ≡ fallen_after o.deleted o.kept.watched τ
 
 -- These happenings take the outside that the recorder holds from one state to the other, with the
 -- tree. Where nothing is missing from the record afterwards, they are recorded.

@@ -118,14 +118,14 @@ noted o ev = record {
 
 -- what its caller is told for an answer, where it is gone or isn't
 abbrev pub HasCome : RecordView → Path → Option ℕ → Height → Answer → RecordView → Type 0
-HasCome r p gone h a s = s ≡ crossed r (event p (Back h (told_to gone a)))
+HasCome r p away h a s = s ≡ crossed r (event p (Back h (told_to away a)))
 
 abbrev pub Turns : RecordView → Tree Own → Path → Option ℕ → Height → Result Turn Interruption →
     RecordView → Type 0
-Turns r T p gone h (Ok (turn.Entry target entry)) s = s
+Turns r T p away h (Ok (turn.Entry target entry)) s = s
     ≡ after r (met T (event target.items (In None (whole_entry entry))))
-Turns r T p gone h (Ok (turn.Completed text)) s = HasCome r p gone h (Replied (Completed (ok text)))
+Turns r T p away h (Ok (turn.Completed text)) s = HasCome r p away h (Replied (Completed (ok text)))
     s
-Turns r T p gone h (Ok (turn.Heard reply)) s = HasCome r p gone h (Heard (reply_of reply)) s
-Turns r T p gone h (Ok turn.Nobody) s = HasCome r p gone h Nobody s
-Turns r T p gone h (Err e) s = Interrupts e (λ x. HasCome r p gone h (Replied x) s)
+Turns r T p away h (Ok (turn.Heard reply)) s = HasCome r p away h (Heard (reply_of reply)) s
+Turns r T p away h (Ok turn.Nobody) s = HasCome r p away h Nobody s
+Turns r T p away h (Err e) s = Interrupts e (λ x. HasCome r p away h (Replied x) s)

@@ -2,6 +2,7 @@
 use Rattle.std.proofs.Common.{◌≡◌, ◌∙◌, ℕ, ◌+◌, Bool, true, false, List, None, refl, sym, ap, subst}
 use Rattle.std.specs.Prelude.{Result, Ok, Err, IfOk, IfErr, IsErrOf, is_some}
 use Rattle.tcl_core.specs.Entries.Entry.{Eval}
+use Rattle.tcl_core.specs.Laws.{IsSpared}
 use Rattle.tcl_core.specs.Paths.{Path, Text}
 use Rattle.tcl_core.specs.Trees.{Event}
 use Rattle.tcl_core.proofs.Stops.{stopping}
@@ -18,10 +19,15 @@ use Rattle.tcl_run.proofs.Steady.{stands}
 use Rattle.tcl_tree.specs.Own.{Own}
 use Rattle.tcl_tree.specs.TreeOf.{marks_of, tree_of}
 use Rattle.tcl_tree.specs.declared.tree.Tree.{Tree as Table}
+use Rattle.tcl_recorder.specs.Boundary.{boundary}
 use Rattle.tcl_recorder.specs.Records.{RecordView}
+use Rattle.tcl_recorder.specs.Recording.{while_there}
 use Rattle.tcl_recorder.specs.declared.recorder.Recorder.{Recorder}
+use Rattle.tcl_recorder.proofs.BoundaryLaws.{boundary_drop}
 use Rattle.tcl_recorder.proofs.Fates as fates
+use Rattle.tcl_recorder.proofs.Fates.{FirstDrop}
 use Rattle.tcl_replay.specs.Watched.{IfDeleted, IfEnds, IfRefused, IsDeletion, IsEntryRun, IsRecord, IsRecorded, Stops, Watches, answer_if, answer_of, recorder_of, watching}
+use Rattle.tcl_replay.specs.declared.watching.Deletion.{Deletion}
 use Rattle.tcl_replay.specs.declared.watching.Unwatched.{Unwatched}
 use Rattle.tcl_replay.specs.declared.watching.Unwatched.TheVariants as unwatched
 use Rattle.tcl_replay.proofs.Stopped.{obeys_entry}
@@ -87,19 +93,23 @@ module _ {S : Type 0} (step : S → Request → HostReply → S → Type 0) (old
 
   pub runs : (result : Result (End × RecordView) Unwatched) → Watches step (watching old o path script limit watched) new z result → IfEnds result (IsRun (hosted step) old o path script (root_count old + limit) new z)
   runs (Ok r) w = w.made.3.run
-  runs (Err (unwatched.Deleted e)) w = w.made.3.run
+  runs (Err (unwatched.Deleted d)) w = w.made.3.run
   runs (Err (unwatched.Refused f)) w = tt
 
   pub wholes : (result : Result (End × RecordView) Unwatched) → Watches step (watching old o path script limit watched) new z result → IfEnds result (IsWhole step old o path script limit new z)
   wholes (Ok r) w = w.made.3.whole
-  wholes (Err (unwatched.Deleted e)) w = w.made.3.whole
+  wholes (Err (unwatched.Deleted d)) w = w.made.3.whole
   wholes (Err (unwatched.Refused f)) w = tt
 
   abbrev Recorded : List (Event Own) → End → Type 0
   Recorded crossings e = IsRecorded step (watching old o path script limit watched) crossings new z e
 
-  one_run : (kept : RecordView) (deleted : Bool) (e : End) → is_some (tree_of old watched) ≡ true → Ran kept deleted e → Recorded kept.crossings e
-  one_run kept deleted e there run =
+  -- all that happens in it
+  abbrev taped : (kept : RecordView) (deleted : Bool) (e : End) → Ran kept deleted e → List (Event Own)
+  taped kept deleted e run = visit path (Eval script) run.entry.events run.reply
+
+  one_run : (kept : RecordView) (deleted : Bool) (e : End) → is_some (tree_of old watched) ≡ true → (run : Ran kept deleted e) → (crossings : List (Event Own)) → crossings ≡ boundary watched (taped kept deleted e run) → Recorded crossings e
+  one_run kept deleted e there run crossings same =
       let n = stands (tree_of old watched) there in
       record {
         during = run.during;
@@ -107,7 +117,7 @@ module _ {S : Type 0} (step : S → Request → HostReply → S → Type 0) (old
         events = run.entry.events;
         visits = run.entry.visits;
         outside = run.entry.outside;
-        recorded = ap (λ (k : RecordView). k.crossings) run.entry.kept;
+        recorded = same;
         node = n.0;
         stood = n.1;
         after = run.after;
@@ -116,36 +126,56 @@ module _ {S : Type 0} (step : S → Request → HostReply → S → Type 0) (old
         taped = run.taped;
       }
 
+  its_crossings : (kept : RecordView) (deleted : Bool) (e : End) → (run : Ran kept deleted e) → kept.crossings ≡ boundary watched (while_there false watched (taped kept deleted e run))
+  its_crossings kept deleted e run = ap (λ (k : RecordView). k.crossings) run.entry.kept
+
+  is_spared : (kept : RecordView) (deleted : Bool) (e : End) → (run : Ran kept deleted e) → deleted ≡ false → IsSpared watched (taped kept deleted e run)
+  is_spared kept deleted e run f = fates.spared watched (taped kept deleted e run) (sym run.entry.fate ∙ f)
+
+  all_crossings : (kept : RecordView) (deleted : Bool) (e : End) → (run : Ran kept deleted e) → deleted ≡ false → kept.crossings ≡ boundary watched (taped kept deleted e run)
+  all_crossings kept deleted e run f = its_crossings kept deleted e run ∙ ap (boundary watched) (fates.there_spared watched (taped kept deleted e run) (is_spared kept deleted e run f))
+
   its_record : (kept : RecordView) (deleted : Bool) (e : End) → is_some (tree_of old watched) ≡ true → Ran kept deleted e → deleted ≡ false → IsRecord step (watching old o path script limit watched) kept new z e
   unfolding one_run
   its_record kept deleted e there run f = (
     ap (λ (k : RecordView). k.watched) run.entry.kept,
-    (one_run kept deleted e there run, fates.spared watched (visit path (Eval script) run.entry.events run.reply) (sym run.entry.fate ∙ f), tt),
+    (one_run kept deleted e there run kept.crossings (all_crossings kept deleted e run f), is_spared kept deleted e run f, tt),
   )
 
   its_stops : (kept : RecordView) (deleted : Bool) (e : End) → is_some (tree_of old watched) ≡ true → Ran kept deleted e → deleted ≡ false → Stops step (watching old o path script limit watched) kept new z e
   unfolding one_run
   its_stops kept deleted e there run f = (
-    one_run kept deleted e there run,
-    fates.spared watched (visit path (Eval script) run.entry.events run.reply) (sym run.entry.fate ∙ f),
+    one_run kept deleted e there run kept.crossings (all_crossings kept deleted e run f),
+    is_spared kept deleted e run f,
     obeys_entry Own watched run.entry.events path path None None (Eval script) run.reply (stopping (language (marks_of old).integers) watched path _ _ _ _ run.runs refl),
   )
 
-  its_deletion : (kept : RecordView) (deleted : Bool) (e : End) → is_some (tree_of old watched) ≡ true → Ran kept deleted e → deleted ≡ true → IsDeletion step (watching old o path script limit watched) new z e
+  its_deletion : (kept : RecordView) (deleted : Bool) (e : End) → is_some (tree_of old watched) ≡ true → Ran kept deleted e → deleted ≡ true → IsDeletion step (watching old o path script limit watched) kept new z e
   unfolding one_run
-  its_deletion kept deleted e there run f = (
-    kept.crossings,
-    one_run kept deleted e there run,
-    λ spared. let both : true ≡ false = sym f ∙ run.entry.fate ∙ fates.stands watched (visit path (Eval script) run.entry.events run.reply) spared in absurd cc,
-  )
+  its_deletion kept deleted e there run f =
+      let tape : List (Event Own) = taped kept deleted e run in
+      let drop : FirstDrop watched tape = fates.first_drop watched tape (sym run.entry.fate ∙ f) in
+      record {
+        crossings = boundary watched tape;
+        run = one_run kept deleted e there run (boundary watched tape) refl;
+        first = drop.first;
+        dropped = drop.dropped;
+        below = drop.below;
+        last = drop.last;
+        parts = drop.parts;
+        falls = drop.falls;
+        spared = drop.spared;
+        watched = ap (λ (k : RecordView). k.watched) run.entry.kept;
+        recorded = its_crossings kept deleted e run ∙ ap (boundary watched) (fates.there_drop watched tape drop) ∙ boundary_drop watched drop.first drop.dropped;
+      }
 
   ok_is : (r : End × RecordView) (kept : RecordView) (deleted : Bool) → ◌≡◌ {A = Result (End × RecordView) Unwatched} (Ok r) (answer_if deleted r.0 kept) → (deleted ≡ false) × (kept ≡ r.1)
   ok_is r kept true e = absurd cc
   ok_is r kept false e = let f : r ≡ (r.0, kept) = cc in (refl, sym (ap (λ (x : End × RecordView). x.1) f))
 
-  deleted_is : (x : End) (kept : RecordView) (deleted : Bool) → ◌≡◌ {A = Result (End × RecordView) Unwatched} (Err (unwatched.Deleted x)) (answer_if deleted x kept) → deleted ≡ true
-  deleted_is x kept true e = refl
-  deleted_is x kept false e = absurd cc
+  deleted_is : (d : Deletion) (kept : RecordView) (deleted : Bool) → ◌≡◌ {A = Result (End × RecordView) Unwatched} (Err (unwatched.Deleted d)) (answer_if deleted d.end kept) → (deleted ≡ true) × (kept ≡ d.until)
+  deleted_is d kept true e = let f : ◌≡◌ {A = Deletion} d (record { end = d.end; until = kept }) = cc in (refl, sym (ap (λ (x : Deletion). x.until) f))
+  deleted_is d kept false e = absurd cc
 
   pub records : (result : Result (End × RecordView) Unwatched) → is_some (tree_of old watched) ≡ true → Watches step (watching old o path script limit watched) new z result →
       IfOk result (λ r. IsRecord step (watching old o path script limit watched) r.1 new z r.0)
@@ -162,10 +192,19 @@ module _ {S : Type 0} (step : S → Request → HostReply → S → Type 0) (old
   stops (Err f) there w = tt
 
   pub deletions : (result : Result (End × RecordView) Unwatched) → is_some (tree_of old watched) ≡ true → Watches step (watching old o path script limit watched) new z result →
-      IfDeleted result (IsDeletion step (watching old o path script limit watched) new z)
+      IfDeleted result (λ d. IsDeletion step (watching old o path script limit watched) d.until new z d.end)
   deletions (Ok r) there w = tt
-  deletions (Err (unwatched.Deleted x)) there w = its_deletion w.made.0 w.made.1 x there w.made.3 (deleted_is x w.made.0 w.made.1 w.made.2)
+  deletions (Err (unwatched.Deleted d)) there w =
+      let is = deleted_is d w.made.0 w.made.1 w.made.2 in
+      subst (λ (k : RecordView). IsDeletion step (watching old o path script limit watched) k new z d.end) is.1 (its_deletion w.made.0 w.made.1 d.end there w.made.3 is.0)
   deletions (Err (unwatched.Refused f)) there w = tt
+
+  -- what follows of a deletion
+  pub follows_drop : (P : RecordView → End → Type 0) (result : Result (End × RecordView) Unwatched) → IfDeleted result (λ d. IsDeletion step (watching old o path script limit watched) d.until new z d.end) →
+      ((r : RecordView) (e : End) → IsDeletion step (watching old o path script limit watched) r new z e → P r e) → IfDeleted result (λ d. P d.until d.end)
+  follows_drop P (Ok r) w k = tt
+  follows_drop P (Err (unwatched.Deleted d)) w k = k d.until d.end w
+  follows_drop P (Err (unwatched.Refused f)) w k = tt
 
   -- what follows of a record
   pub follows : (P : RecordView → End → Type 0) (result : Result (End × RecordView) Unwatched) → IfOk result (λ r. IsRecord step (watching old o path script limit watched) r.1 new z r.0) →

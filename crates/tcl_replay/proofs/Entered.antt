@@ -5,7 +5,7 @@ use Rattle.tcl_core.specs.Endings.{Reply}
 use Rattle.tcl_core.specs.Entries.Entry.{Eval}
 use Rattle.tcl_core.specs.Lives.{End as Ending, limited}
 use Rattle.tcl_core.specs.Paths.{Path, Text}
-use Rattle.tcl_core.specs.Runs.{Runs, entering}
+use Rattle.tcl_core.specs.Runs.{Runs}
 use Rattle.tcl_core.specs.Programs.{Wait}
 use Rattle.tcl_core.specs.Execution.{Chain, Crossings, before, event}
 use Rattle.tcl_core.specs.Trees.{Event, Tree, Node}
@@ -24,7 +24,6 @@ use Rattle.tcl_language_laws.specs.Language.{language}
 use Rattle.tcl_language.specs.Table.{serve}
 use Rattle.tcl_run.specs.Outsides.{hosted}
 use Rattle.tcl_run.specs.Runs.{Comes}
-use Rattle.tcl_run.proofs.Leads.{at_prog}
 use Rattle.tcl_run.proofs.Steady.{stands, still_stands}
 use Rattle.tcl_text.specs.declared.integer.Integers.{Integers}
 use Rattle.tcl_tree.specs.Own.{Own}
@@ -36,12 +35,12 @@ use Rattle.tcl_eval.specs.declared.running.End.{End}
 use Rattle.tcl_eval.specs.declared.running.OpenEnd.{OpenEnd}
 use Rattle.tcl_eval.specs.declared.running.OpenEnd.TheVariants as open_end
 use Rattle.tcl_eval.specs.declared.running.Refused.{Refused}
-use Rattle.tcl_recorder.specs.Laws.{IsWatched, KeepsAll}
-use Rattle.tcl_recorder.specs.Recording.{Keeps, crossed, noted, recorded}
+use Rattle.tcl_recorder.specs.Laws.{IsWatched, KeepsAll, visit}
+use Rattle.tcl_recorder.specs.Recording.{Keeps, noted, recorded}
 use Rattle.tcl_recorder.specs.declared.recorder.Recorder.{Recorder}
-use Rattle.tcl_recorder.proofs.Fates.{fate_parts}
-use Rattle.tcl_recorder.proofs.Visits.{after_parts, visits}
-use Rattle.tcl_recorder.proofs.Watched.{after_one, step as recorder_step, unwatched, watched}
+use Rattle.tcl_recorder.proofs.Meeting.{AreMet, met_front, visit_met}
+use Rattle.tcl_recorder.proofs.Visits.{fate_entry, kept_entry, told_end, visits}
+use Rattle.tcl_recorder.proofs.Watched.{step as recorder_step, unwatched, watched}
 use Rattle.tcl_replay.specs.Watched.{IsEntryRun}
 use Rattle.tcl_replay.proofs.Before.{fit_there}
 
@@ -66,21 +65,21 @@ module _ {S : Type 0} (step : S → Request → HostReply → S → Type 0) (old
   abbrev Opened : OpenEnd → Type 0
   Opened e = IsOpenRun (recorded (hosted step)) old (noted o first) path script (root_count old + limit) new z e
 
-  -- the run from its entry on
-  entered : (e : OpenEnd) → is_some (tree_of old path) ≡ true → (run : Opened e) → Comes (recorded (hosted step)) (language style) T0 (noted o first) path (entering (language style) (T0 path) (Eval script)) run.during run.between run.reply
-  entered e there run =
-      let n : (n : Node Own) × (tree_of old path ≡ Some n) = stands (tree_of old path) there in
-      let m : (m : Node Own) × (T0 path ≡ Some m) = still_stands (tree_of old) (Some (root_count old + limit)) path n.0 n.1 in
-      at_prog (ap (λ x. entering (language style) x (Eval script)) m.1) run.runs
+  -- who stands at the path
+  here : is_some (tree_of old path) ≡ true → (n : Node Own) × (tree_of old path ≡ Some n)
+  here there = stands (tree_of old path) there
 
-  -- the whole evaluation with the same tape
+  here_too : is_some (tree_of old path) ≡ true → (n : Node Own) × (T0 path ≡ Some n)
+  here_too there = let n = here there in still_stands (tree_of old) (Some (root_count old + limit)) path n.0 n.1
+
   abbrev Wholly : (e : OpenEnd) → Opened e → Type 0
   Wholly e run = WholeTape step (Crossings (recorded (hosted step))) (λ (u : Recorder S). u.outside) (language style) (tree_of old) path script limit (noted o first) run.during run.between run.reply
 
   wholly : (e : OpenEnd) → is_some (tree_of old path) ≡ true → (run : Opened e) → Wholly e run
   wholly e there run =
-      whole_tape step (Crossings (recorded (hosted step))) (λ (u : Recorder S). u.outside) (along step) leaves_steps (language style) (tree_of old) run.during (noted o first) run.between path script limit run.reply
-      (language_keeps_tops style) (stands (tree_of old []) (top_there old)) (entered e there run)
+      let n = here there in
+      whole_tape step (Crossings (recorded (hosted step))) (λ (u : Recorder S). u.outside) (along step) leaves_steps (language style) (tree_of old) run.during (noted o first) run.between path script limit run.reply n.0
+      (language_keeps_tops style) (stands (tree_of old []) (top_there old)) n.1 run.runs
 
   -- what is recorded over that tape
   watched_so : (e : OpenEnd) (run : Opened e) (w : Wholly e run) → IsWatched (hosted step) [] T0 (noted o first) w.says.events [] run.during run.between
@@ -94,22 +93,26 @@ module _ {S : Type 0} (step : S → Request → HostReply → S → Type 0) (old
   entry_run : (e : End) → is_some (tree_of old path) ≡ true → Opened (open_end.Ran e) → IsEntryRun step old o path script limit new z e
   entry_run e there run =
       let w = wholly (open_end.Ran e) there run in
+      let n = here_too there in
       let all = watched_so (open_end.Ran e) run w in
-      let ends : Keeps run.between (last run.reply) z = run.told.keeps (run.told.ends tt) in
-      let kept : KeepsAll (noted o first) w.says.events run.between = all.keeps ends.whole in
+      let ends : Keeps run.during run.between (last run.reply) z = run.told.keeps (run.told.ends tt) in
+      let kept : KeepsAll T0 (noted o first) w.says.events run.between = all.keeps ends.whole in
       let τ : List (Event Own) = w.says.events in
+      let seen = visits (Taped (Crossings (recorded (hosted step)))) (language style) path (Eval script) n.0 n.1 w.says in
+      let met_all : AreMet T0 (visit path (Eval script) τ run.reply) = visit_met (language style) (before T0 (visit path (Eval script) τ run.reply)) path (Eval script) (before run.during []) run.reply seen tt in
+      let met_within : AreMet T0 τ = met_front T0 τ (last run.reply ∷ []) met_all.1 in
       let same : w.whole.ending ≡ ending_of e = Some-inj w.whole.ending (sym w.whole.ends ∙ run.ends) in
       record {
         during = run.during;
         reply = run.reply;
         entry = record {
           events = τ;
-          visits = visits (Taped (Crossings (recorded (hosted step)))) (language style) path (Eval script) w.says;
+          visits = seen;
           outside = subst (λ (u : S). Chain (Crossings (hosted step)) [] T0 o.outside τ [] run.during u) (sym run.told.outside) all.outside;
-          kept = ends.kept ∙ ap (λ k. crossed k (last run.reply)) kept.kept ∙ after_parts (crossed o.kept first) τ (last run.reply ∷ []) ∙ after_one o.kept first (τ ++ last run.reply ∷ []);
-          fate = ends.fate ∙ kept.fate ∙ sym (fate_parts o.deleted o.kept.watched τ (last run.reply ∷ []));
+          kept = kept_entry T0 o.kept run.between.kept z.kept o.deleted run.between.deleted path (Eval script) τ run.reply met_within kept.kept kept.fate (ends.kept ∙ told_end run.between.deleted run.between.kept run.during path run.reply);
+          fate = ends.fate ∙ fate_entry o.kept o.deleted run.between.deleted path (Eval script) τ run.reply kept.fate;
         };
-        runs = subst (λ v. Runs (language style) v path (entering (language style) (T0 path) (Eval script)) (before run.during []) (Some run.reply)) (ahead-all T0 τ) (derived_runs (language style) (w.says.runs nothing));
+        runs = subst (λ v. Runs (language style) v path ((language style).entry (Eval script)) (before run.during []) (Some run.reply)) (ahead-all T0 τ) (derived_runs (language style) (w.says.runs nothing));
         run = record { during = run.during; reply = run.reply; runs = plain (open_end.Ran e) run; after = run.after; ends = run.ends };
         after = run.after;
         ends = run.ends;

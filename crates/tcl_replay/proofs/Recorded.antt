@@ -1,21 +1,26 @@
 -- What the laws of isolation say of a run that was recorded.
-use Rattle.std.proofs.Common.{◌≡◌, ◌∙◌, ℕ, ◌≤◌, ◌+◌, ◌++◌, Option, Some, sym, ap, subst}
+use Rattle.std.proofs.Common.{◌≡◌, ◌∙◌, ℕ, ◌≤◌, ◌+◌, ◌∷◌, ◌++◌, Option, Some, sym, ap, subst, arith}
+use Rattle.tcl_run_laws.proofs.BudgetWholes.{steps}
 use Rattle.tcl_run_laws.proofs.Orders.{orderly_relimited}
 use Rattle.tcl_run_laws.proofs.Tables.{orderly}
 use Rattle.tcl_core.specs.Entries.Entry.{Eval}
-use Rattle.tcl_core.specs.Laws.{ArePlain, AsLimited, IsSafeAt, IsSafeBelow, rest}
+use Rattle.tcl_core.specs.Execution.{event}
+use Rattle.tcl_core.specs.Laws.{ArePlain, AsLimited, IsSafeAt, IsSafeBelow, after, rest}
 use Rattle.tcl_core.specs.Lives.{React, count_at, limit_at, limited, outcome_of, outs_of}
 use Rattle.tcl_core.specs.Lives.Outcome.{Finished}
 use Rattle.tcl_core.specs.Paths.{Path, Text}
 use Rattle.tcl_core.specs.Trees.{Node, Tree, at}
+use Rattle.tcl_core.specs.Trees.What.{Dropped}
 use Rattle.tcl_core.specs.Views.{moves_of, steps_of, view}
-use Rattle.tcl_eval.specs.Running.{root_count, root_limit}
+use Rattle.tcl_eval.specs.Running.{ending_of, root_count, root_limit}
 use Rattle.tcl_eval.specs.declared.running.End.{End}
 use Rattle.tcl_host.specs.declared.reply.HostReply.{HostReply}
 use Rattle.tcl_host.specs.declared.request.Request.{Request}
-use Rattle.tcl_isolation.specs.Laws.{DoesUntil, IsWithin, Suffices}
+use Rattle.tcl_isolation.specs.Laws.{DoesJust, DoesUntil, IsWithin, Suffices}
 use Rattle.tcl_isolation.specs.Scripts as laws
-use Rattle.tcl_isolation.specs.Visits.{IsBelowTheTop, WatchedVisit, visit}
+use Rattle.tcl_isolation.specs.Visits.{DroppedVisit, IsBelowTheTop, WatchedVisit, visit}
+use Rattle.tcl_isolation.proofs.Dropping as drops
+use Rattle.tcl_isolation.proofs.Dropping.{steps_until}
 use Rattle.tcl_isolation.proofs.Hosts.{host_untouched}
 use Rattle.tcl_isolation.proofs.Safe as safe
 use Rattle.tcl_isolation.proofs.Untouching.{rest_untouched}
@@ -29,7 +34,7 @@ use Rattle.tcl_tree.specs.Own.{Own}
 use Rattle.tcl_tree.specs.TreeOf.{marks_of, tree_of}
 use Rattle.tcl_tree.specs.declared.tree.Tree.{Tree as Table}
 use Rattle.tcl_recorder.specs.Records.{RecordView}
-use Rattle.tcl_replay.specs.Watched.{AsksTheHostNothing, Counts, CountStaysWithin, IsRecord, IsRecorded, LeavesTheOutside, LimitsStay, Reacts, ReactsSo, ReactsUntil, watching}
+use Rattle.tcl_replay.specs.Watched.{AsksTheHostNothing, Counts, CountStaysWithin, IsRecord, IsRecorded, LeavesTheOutside, IsDeletion, LimitsStay, Reacts, ReactsSo, ReactsToDrop, ReactsUntil, watching}
 use Rattle.tcl_replay.proofs.Below.{below_at, below_same, rest_back}
 
 module _ {S : Type 0} (step : S → Request → HostReply → S → Type 0) (old : Table) (o : S) (path : Path) (script : Text) (limit : ℕ) (c : Path) (r : RecordView) (new : Table) (z : S) (e : End) where
@@ -85,6 +90,41 @@ module _ {S : Type 0} (step : S → Request → HostReply → S → Type 0) (old
   reacts_until w f early late whole u m le =
       subst (λ (A : Tree Own). DoesUntil (language style) A early late m) (at_first f)
       (does_until (hosted step) (language style) T0 (run_of w).during o z path (Eval script) c r.crossings (run_of w).reply (run_of w).node m (visited w) f (stood w f) (enough w m f le) early late whole u)
+
+  -- ## Where it was deleted
+
+  abbrev Cut_off : Type 0
+  Cut_off = IsDeletion step (watching old o path script limit c) r new z e
+
+  dropped : (d : Cut_off) → DroppedVisit (hosted step) (language style) T0 o path (Eval script) c r.crossings d.run.during z d.run.reply
+  dropped d = record {
+    events = d.run.events;
+    visits = d.run.visits;
+    outside = d.run.outside;
+    first = d.first;
+    dropped = d.dropped;
+    below = d.below;
+    last = d.last;
+    parts = d.parts;
+    falls = d.falls;
+    spared = d.spared;
+    recorded = d.recorded;
+  }
+
+  -- no more steps are made there until then than in the whole run
+  few_steps : (d : Cut_off) → steps_of (view c d.first) ≤ limit
+  few_steps d =
+      let whole : steps_of d.run.whole.whole.tape ≤ limit = steps (language style) (tree_of old) (tree_of new) path script limit d.run.whole.replies (ending_of e) d.run.whole.outs d.run.whole.whole in
+      let tape : d.run.whole.whole.tape ≡ d.first ++ event d.dropped Dropped ∷ d.last = d.run.taped ∙ d.parts in
+      steps_until c d.first (event d.dropped Dropped ∷ d.last) limit (subst (λ τ. steps_of τ ≤ limit) tape whole)
+
+  pub reacts_to_drop : Cut_off → ReactsToDrop step (watching old o path script limit c) r new z e
+  unfolding dropped
+  reacts_to_drop d f u m le =
+      let most : steps_of (view c d.first) ≤ limit = few_steps d in
+      let enough_steps : steps_of (view c d.first) ≤ m = omega arith in
+      let h = drops.reacts_to_drop (hosted step) (language style) T0 d.run.during o z path (Eval script) c r.crossings d.run.reply d.run.node m (dropped d) f (same_first f ∙ d.run.stood) u enough_steps in
+      (d, h.0, h.1, subst (λ (A : Tree Own). DoesJust (language style) A (moves_of r.crossings) m h.0 (outs_of r.crossings) (at (after d.first T0) c)) (at_first f) h.2)
 
   pub leaves : One → LeavesTheOutside old o path c r.crossings new z
   leaves w u there f =

@@ -1,17 +1,17 @@
 -- What an entry of a playing comes to, and how playings go on.
-use Rattle.std.proofs.Common.{◌≡◌, ℕ, true, false, List, [], ◌∷◌, Some, None, Result, Ok, Err, refl, sym, ap, subst}
+use Rattle.std.proofs.Common.{◌≡◌, inl, inr, ℕ, true, false, List, [], ◌∷◌, Some, None, Result, Ok, Err, refl, sym, ap, subst}
 use Rattle.std.specs.Prelude.{IfNone, IfSome, Option, OnOk, is_some}
 use Rattle.tcl_core.specs.Endings.{Reply, ok}
 use Rattle.tcl_core.specs.Endings.Reply.{Completed, Exit, Cut}
 use Rattle.tcl_core.specs.Entries.{Entry}
 use Rattle.tcl_core.specs.Lives.{Outcome, React}
-use Rattle.tcl_core.specs.Paths.{Path, Place, Text}
+use Rattle.tcl_core.specs.Paths.{Path, Text}
+use Rattle.tcl_core.specs.Paths as paths
 use Rattle.tcl_core.specs.Programs.{Wait}
-use Rattle.tcl_core.specs.Runs.{entering}
 use Rattle.tcl_core.specs.Execution.{Crossings, event, hears}
 use Rattle.tcl_core.specs.Trees.{Event, Move, Tree, What}
-use Rattle.tcl_core.specs.Trees.What.{Charged, Refused, Dropped, Out, In, Done, Back}
-use Rattle.tcl_evaluation.specs.Waiting.{EndsEntry}
+use Rattle.tcl_core.specs.Trees.What.{Charged, Refused, Dropped, Out, In, Done, Back, Unfound}
+use Rattle.tcl_evaluation.specs.Waiting.{EndsEntry, MissesEntry}
 use Rattle.tcl_flow.specs.View.{completion_of}
 use Rattle.tcl_flow.specs.Stopping as stopping
 use Rattle.tcl_language_laws.specs.Language.{language}
@@ -23,11 +23,11 @@ use Rattle.tcl_player.specs.declared.player.Player as declared
 use Rattle.tcl_recorder.specs.declared.crossing.Answer.TheVariants as answer
 use Rattle.tcl_recorder.specs.declared.crossing.Reply.TheVariants as reply
 use Rattle.tcl_reactions.specs.Playing.{IsOver, Lived, Player, beginner, outcome, plays, tree_left}
-use Rattle.tcl_reactions.specs.Playing.Lived.{entered}
+use Rattle.tcl_reactions.specs.Playing.Lived.{entered, unfound}
 use Rattle.tcl_reactions.proofs.OneOutcome.{one_outcome}
 use Rattle.tcl_reactions.proofs.Reacted.{played_is_react}
 use Rattle.tcl_reactions.specs.Laws.{AreFromAbove}
-use Rattle.tcl_replay.specs.Replaying.{ReactsSo, Serves, wants_memory}
+use Rattle.tcl_replay.specs.Replaying.{Misses, PlaysEntry, ReactsSo, Serves, wants_memory}
 use Rattle.tcl_run.specs.Ends.{IfEnded, cause_of}
 use Rattle.tcl_run.specs.Runs.{Comes, ways}
 use Rattle.tcl_run.proofs.Proceeding.{comes}
@@ -35,12 +35,15 @@ use Rattle.tcl_run.specs.declared.interruption.Interruption.{Interruption}
 use Rattle.tcl_run.specs.declared.interruption.Interruption.TheVariants as interruption
 use Rattle.tcl_text.specs.declared.integer.Integers.{Integers}
 use Rattle.tcl_tree.specs.Own.{Own}
-use Rattle.tcl_tree.specs.TreeOf.{marks_of, tree_of}
+use Rattle.tcl_tree.specs.TreeOf.{Names, marks_of, tree_of}
+use Rattle.tcl_tree.specs.declared.tree.Place.{Place}
 use Rattle.tcl_tree.specs.declared.tree.Tree as table
+use Rattle.tcl_tree.proofs.CoreLemmas.{tree_there}
+use Rattle.tcl_run.proofs.Steady.{stands}
 use Rattle.tcl_recorder.proofs.Watched.{comes_along}
 
 -- what a player as it is kept is told is told the player that is seen
-seen : (T : Tree Own) (o : declared.Player) (s : Wait) (p : Place) (x : What Own) (u : declared.Player) → hears played T o s p x u → hears plays T (player_of o) s p x (player_of u)
+seen : (T : Tree Own) (o : declared.Player) (s : Wait) (p : paths.Place) (x : What Own) (u : declared.Player) → hears played T o s p x u → hears plays T (player_of o) s p x (player_of u)
 seen T o s p (Out h down i) u t = t
 seen T o s p (Back h a) u t = t
 seen T o s p (In h i) u t = t
@@ -48,6 +51,7 @@ seen T o s p (Done h r) u t = t
 seen T o s p Charged u t = t
 seen T o s p (Refused m None) u t = t
 seen T o s p Dropped u t = t
+seen T o s p (Unfound q i c) u t = t
 seen T o s p x u t = ap player_of t
 
 along : (T : Tree Own) (o : declared.Player) (s : Wait) (ev : Event Own) (u : declared.Player) → Crossings played T o s ev u → Crossings plays T (player_of o) s ev (player_of u)
@@ -62,9 +66,9 @@ ended_so A B (Err (interruption.Exited n)) m a b = (Exit n, a, b)
 ended_so A B (Err (interruption.Cut c)) m a b = (Cut (cause_of c), a, b)
 ended_so A B (Err interruption.Memory) m a b = absurd (cc m)
 
-module _ (loses : declared.Player → declared.Player → Type 0) (old new : table.Tree) (o u z : declared.Player) (p target : Path) (i : Entry) (ended : Result Text Interruption) where
+module _ (loses : declared.Player → declared.Player → Type 0) (old new : table.Tree) (o u z : declared.Player) (p : Path) (i : Entry) (ended : Result Text Interruption) (place : Place) where
   runs_of : (e : Result Text Interruption) → EndsEntry (ways played loses) old o p i new u e →
-      IfEnded e (λ r. Comes played (language (marks_of old).integers) (tree_of old) o p (entering (language (marks_of old).integers) (tree_of old p) i) (tree_of new) u r)
+      IfEnded e (λ r. Comes played (language (marks_of old).integers) (tree_of old) o p ((language (marks_of old).integers).entry i) (tree_of new) u r)
   runs_of (Ok text) f = comes (f (marks_of old).integers refl)
   runs_of (Err (interruption.Completed c)) f = comes (f (marks_of old).integers refl)
   runs_of (Err (interruption.Stopped s)) f = comes (f (marks_of old).integers refl)
@@ -72,33 +76,46 @@ module _ (loses : declared.Player → declared.Player → Type 0) (old new : tab
   runs_of (Err (interruption.Cut c)) f = comes (f (marks_of old).integers refl)
   runs_of (Err interruption.Memory) f = tt
 
-  served : p ≡ target → wants_memory ended ≡ false → EndsEntry (ways played loses) old o p i new u ended → IfEnded ended (λ r. played (tree_of new) u None (event p (Done None r)) z) →
-      Serves (marks_of old).integers (tree_of old) (player_of o) target i (tree_of new) (player_of z)
-  served e m a b =
+  served : Names old place p → wants_memory ended ≡ false → EndsEntry (ways played loses) old o p i new u ended → IfEnded ended (λ r. played (tree_of new) u None (event p (Done None r)) z) →
+      Serves (marks_of old).integers (tree_of old) (player_of o) p i (tree_of new) (player_of z)
+  served named m a b =
       let x = ended_so
-      (λ r. Comes played (language (marks_of old).integers) (tree_of old) o p (entering (language (marks_of old).integers) (tree_of old p) i) (tree_of new) u r)
+      (λ r. Comes played (language (marks_of old).integers) (tree_of old) o p ((language (marks_of old).integers).entry i) (tree_of new) u r)
       (λ r. played (tree_of new) u None (event p (Done None r)) z)
       ended m (runs_of ended a) b in
-      subst (λ t. Serves (marks_of old).integers (tree_of old) (player_of o) t i (tree_of new) (player_of z)) e
-      (record {
+      let n = stands (tree_of old p) (tree_there old p place.key named) in
+      record {
+        node = n.0;
+        stands = n.1;
         between = player_of u;
         reply = x.0;
         runs = comes_along (Crossings played) (Crossings plays) player_of along (language (marks_of old).integers) x.1;
         told = x.2;
-      })
+      }
 
-  pub serves : {E : Type 0} (left : Result (Unit {0}) E) → p ≡ target → wants_memory ended ≡ false → EndsEntry (ways played loses) old o p i new u ended →
+  pub serves : {E : Type 0} (left : Result (Unit {0}) E) → Names old place p → wants_memory ended ≡ false → EndsEntry (ways played loses) old o p i new u ended →
       OnOk left (IfEnded ended (λ r. played (tree_of new) u None (event p (Done None r)) z)) →
-      OnOk left (Serves (marks_of old).integers (tree_of old) (player_of o) target i (tree_of new) (player_of z))
-  serves (Ok l) e m a b = served e m a b
-  serves (Err x) e m a b = tt
+      OnOk left (Serves (marks_of old).integers (tree_of old) (player_of o) p i (tree_of new) (player_of z))
+  serves (Ok l) named m a b = served named m a b
+  serves (Err x) named m a b = tt
+
+-- who it is that an entry was handed in for
+pub served_at : {E : Type 0} (left : Result (Unit {0}) E) (style : Integers) (U V : Tree Own) (w z : declared.Player) (p target : Path) (i : Entry) → p ≡ target → OnOk left (Serves style U (player_of w) p i V (player_of z)) → OnOk left (PlaysEntry style U w target i V z)
+served_at (Ok l) style U V w z p target i e s = inl (subst (λ t. Serves style U (player_of w) t i V (player_of z)) e s)
+served_at (Err x) style U V w z p target i e s = tt
+
+pub missed_at : {E : Type 0} (left : Result (Unit {0}) E) (t : table.Tree) (w z : declared.Player) (p target : Path) (i : Entry) → p ≡ target → tree_of t p ≡ None → OnOk left (MissesEntry played t w p i z) → OnOk left (PlaysEntry (marks_of t).integers (tree_of t) w target i (tree_of t) z)
+missed_at (Ok l) t w z p target i e none m = inr (subst (λ q. Misses (marks_of t).integers (tree_of t) w q i (tree_of t) z) e (record { nobody = none; same = refl; told = m }))
+missed_at (Err x) t w z p target i e none m = tt
 
 -- one entry more was played
-pub goes_on : (style : Integers) (S V : Tree Own) (t : table.Tree) (o u w z : Player Own) (target : Path) (i : Entry) →
-    (marks_of t).integers ≡ style → Lived (language style) S o (tree_of t) u → Begins u target i w → Serves (marks_of t).integers (tree_of t) w target i V z → Lived (language style) S o V z
-goes_on style S V t o u w z target i e l b s =
-    let r = subst (λ k. Serves k (tree_of t) w target i V z) e s in
-    entered target i r.reply l b.0 b.1 (b.2 (tree_of t)) r.runs r.told
+pub goes_on : (style : Integers) (S V : Tree Own) (t : table.Tree) (o : Player Own) (u w z : declared.Player) (target : Path) (i : Entry) →
+    (marks_of t).integers ≡ style → Lived (language style) S o (tree_of t) (player_of u) → Begins (player_of u) target i (player_of w) → PlaysEntry (marks_of t).integers (tree_of t) w target i V z → Lived (language style) S o V (player_of z)
+goes_on style S V t o u w z target i e l b s = by (subst (λ k. PlaysEntry k (tree_of t) w target i V z) e s)
+  where
+    by : PlaysEntry style (tree_of t) w target i V z → Lived (language style) S o V (player_of z)
+    by (inl r) = entered target i r.reply l b.0 b.1 r.stands (b.2 (tree_of t)) r.runs r.told
+    by (inr m) = subst (λ U. Lived (language style) S o U (player_of z)) (sym m.same) (unfound target i l b.0 b.1 m.nobody (m.told u (b.2 (tree_of t))))
 
 -- what is said where there is something, or nothing
 pub where_some : {A : Type 0} (P : A → Type 0) (o : Option A) (a : A) → o ≡ Some a → IfSome o P → P a
@@ -131,6 +148,7 @@ pub from_above : (ms : List KeptMove) → AreFromAbove (moves_in ms)
 from_above [] = tt
 from_above (moving.Enter target entry ∷ ms) = from_above ms
 from_above (moving.Come (answer.Heard r) ∷ ms) = from_above ms
+from_above (moving.Come answer.Nobody ∷ ms) = from_above ms
 from_above (moving.Come (answer.Replied (reply.Completed c)) ∷ ms) = from_above ms
 from_above (moving.Come (answer.Replied (reply.Stopped s)) ∷ ms) = from_above ms
 from_above (moving.Come (answer.Replied (reply.Exited n)) ∷ ms) = from_above ms

@@ -100,5 +100,5 @@ module _ {S : Type 0} (step : S → Request → HostReply → S → Type 0) (old
 
   pub if_refused_so : (r : Result (End × RecordView) Unwatched) → is_some (tree_of old path) ≡ true → IfRefused r (λ _. Lost step old path script (root_count old + limit) o z) → IfRefused r (λ _. AsksFirst step old o path script limit z)
   if_refused_so (Ok x) there g = tt
-  if_refused_so (Err (unwatched.Deleted e)) there g = tt
+  if_refused_so (Err (unwatched.Deleted d)) there g = tt
   if_refused_so (Err (unwatched.Refused f)) there g = asks_first there g

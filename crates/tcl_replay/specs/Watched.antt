@@ -1,19 +1,20 @@
 -- What contracts see of an evaluation that is watched.
-use Rattle.std.specs.Prelude.{◌≡◌, ℕ, ◌≤◌, ◌+◌, ◌&&◌, Bool, true, false, List, [], ◌++◌, nat_le}
-use Rattle.std.specs.Prelude.{Option, Some, None, is_some, Result, Ok, Err}
+use Rattle.std.specs.Prelude.{◌≡◌, ℕ, ◌≤◌, ◌+◌, ◌&&◌, Bool, true, false, List, [], ◌∷◌, ◌++◌}
+use Rattle.std.specs.Prelude.{nat_le, Option, Some, None, is_some, Result, Ok, Err}
 use Rattle.tcl_core.specs.Endings.{Reply}
 use Rattle.tcl_core.specs.Entries.Entry.{Eval}
 use Rattle.tcl_core.specs.Laws.{AreFree, ArePlain, AsLimited, AsksNothing, IsSafeAt}
-use Rattle.tcl_core.specs.Laws.{IsSpared, IsStanding, IsUnended, Obeys, Unasked, rest}
+use Rattle.tcl_core.specs.Laws.{IsOpenOrDone, IsSpared, IsStanding, IsUnended, Obeys, Unasked}
+use Rattle.tcl_core.specs.Laws.{after, rest}
 use Rattle.tcl_core.specs.Lives.{Outcome, React, count_at, end_at, limit_at, limited, outcome_of}
 use Rattle.tcl_core.specs.Lives.{outs_of}
 use Rattle.tcl_core.specs.Lives.Outcome.{Finished}
-use Rattle.tcl_core.specs.Paths.{Path, Text}
-use Rattle.tcl_core.specs.Runs.{Runs, Visits, entering}
+use Rattle.tcl_core.specs.Paths.{Path, Place, Text, strip}
+use Rattle.tcl_core.specs.Runs.{Runs, Visits}
 use Rattle.tcl_core.specs.Tables.{exposes}
-use Rattle.tcl_core.specs.Execution.{Chain, Crossings, before}
+use Rattle.tcl_core.specs.Execution.{Chain, Crossings, before, event}
 use Rattle.tcl_core.specs.Trees.{Event, Node, Tree, at, effect}
-use Rattle.tcl_core.specs.Trees.What.{Limited}
+use Rattle.tcl_core.specs.Trees.What.{Dropped, Limited}
 use Rattle.tcl_core.specs.Views.{moves_of, steps_of, view}
 use Rattle.tcl_eval.specs.Running.{IsGivenUp, IsRun, IsWhole, ending_of, first_of, most_steps}
 use Rattle.tcl_eval.specs.Running.{root_count, root_limit}
@@ -22,7 +23,7 @@ use Rattle.tcl_eval.specs.declared.running.Refused.{Refused}
 use Rattle.tcl_eval.specs.declared.running.Refused.TheVariants as refused
 use Rattle.tcl_host.specs.declared.reply.HostReply.{HostReply}
 use Rattle.tcl_host.specs.declared.request.Request.{Request}
-use Rattle.tcl_isolation.specs.Laws.{DoesUntil, IsWithin, Suffices}
+use Rattle.tcl_isolation.specs.Laws.{DoesJust, DoesUntil, IsWithin, Suffices}
 use Rattle.tcl_isolation.specs.Limits.{AreLowering}
 use Rattle.tcl_isolation.specs.Visits.{CallsNobody, IsBelowTheTop, visit}
 use Rattle.tcl_core.specs.Programs.{Table as LanguageTable}
@@ -38,6 +39,7 @@ use Rattle.tcl_recorder.specs.Boundary.{boundary}
 use Rattle.tcl_recorder.specs.Laws.{WatchedEntry}
 use Rattle.tcl_recorder.specs.Records.{RecordView}
 use Rattle.tcl_recorder.specs.declared.recorder.Recorder.{Recorder}
+use Rattle.tcl_replay.specs.declared.watching.Deletion.{Deletion}
 use Rattle.tcl_replay.specs.declared.watching.Unwatched.{Unwatched}
 use Rattle.tcl_replay.specs.declared.watching.Unwatched.TheVariants as unwatched
 
@@ -56,7 +58,7 @@ unwatchable t path script limit watched = first_of (marks_of t).broken
 -- what is answered where the run ended so, with this record, and the watched interpreter was
 -- deleted or not
 abbrev pub answer_if : Bool → End → RecordView → Result (End × RecordView) Unwatched
-answer_if true e r = Err (unwatched.Deleted e)
+answer_if true e r = Err (unwatched.Deleted (record { end = e; until = r }))
 answer_if false e r = Ok (e, r)
 
 abbrev pub answer_of : Result End Refused → RecordView → Bool → Result (End × RecordView) Unwatched
@@ -66,19 +68,19 @@ answer_of (Err f) r deleted = Err (unwatched.Refused f)
 -- what is said of the end of a run that came to its end
 abbrev pub IfEnds : Result (End × RecordView) Unwatched → (End → Type 0) → Type 0
 IfEnds (Ok r) P = P r.0
-IfEnds (Err (unwatched.Deleted e)) P = P e
+IfEnds (Err (unwatched.Deleted d)) P = P d.end
 IfEnds (Err (unwatched.Refused f)) P = Unit {0}
 
--- where the watched interpreter was deleted in it
-abbrev pub IfDeleted : Result (End × RecordView) Unwatched → (End → Type 0) → Type 0
+-- where the watched interpreter was deleted in it, of the end and of the record until then
+abbrev pub IfDeleted : Result (End × RecordView) Unwatched → (Deletion → Type 0) → Type 0
 IfDeleted (Ok r) P = Unit {0}
-IfDeleted (Err (unwatched.Deleted e)) P = P e
+IfDeleted (Err (unwatched.Deleted d)) P = P d
 IfDeleted (Err (unwatched.Refused f)) P = Unit {0}
 
 -- of the refusal where there was none
 abbrev pub IfRefused : Result (End × RecordView) Unwatched → (Refused → Type 0) → Type 0
 IfRefused (Ok r) P = Unit {0}
-IfRefused (Err (unwatched.Deleted e)) P = Unit {0}
+IfRefused (Err (unwatched.Deleted d)) P = Unit {0}
 IfRefused (Err (unwatched.Refused f)) P = P f
 
 -- ## The run and its record
@@ -154,11 +156,20 @@ module _ {S : Type 0} (step : S → Request → HostReply → S → Type 0) (w :
   abbrev pub IsRecord : RecordView → Table → S → End → Type 0
   IsRecord r new z e = (r.watched ≡ w.watched) × IsRecordWith r.crossings new z e (λ τ. Unit {0})
 
-  -- There is such a run in which the watched interpreter is dropped.
-  abbrev pub IsDeletion : Table → S → End → Type 0
-  IsDeletion new z e = (crossings : List (Event Own)) ×
-      (run : IsRecorded step w crossings new z e) ×
-      (IsSpared w.watched (happened crossings new z e run) → Prim.⊥)
+  -- There is such a run in which the watched interpreter is dropped: it, or one above it, first at
+  -- `dropped`. The record has the crossings of its boundary in the run until then.
+  pub record IsDeletion (r : RecordView) (new : Table) (z : S) (e : End) : Type 0 where
+    pub crossings : List (Event Own)
+    pub run : IsRecorded step w crossings new z e
+    pub first : List (Event Own)
+    pub dropped : Place
+    pub below : Path
+    pub last : List (Event Own)
+    pub parts : happened crossings new z e run ≡ first ++ event dropped Dropped ∷ last
+    pub falls : strip dropped w.watched ≡ Some below
+    pub spared : IsSpared w.watched first
+    pub watched : r.watched ≡ w.watched
+    pub recorded : r.crossings ≡ boundary w.watched first
 
 -- ## What the watched interpreter does by itself
 
@@ -192,6 +203,18 @@ ReactsUntil old c crossings new = IsBelowTheTop c → (early late : List (Event 
     crossings ≡ early ++ late → IsUnended early → (m : ℕ) →
     Suffices m (tree_of old c) (tree_of new c) →
     DoesUntil (language (marks_of old).integers) (at (tree_of old) c) early late m
+
+-- Where it was deleted, it or one above it, and no entry was ended from outside until then: with the
+-- moves of the record until then the subtree by itself has done what it was asked for, or it waits
+-- at a call that is open; it tells what the record tells, and leaves the subtree that stood there
+-- when it was deleted. So it is with every budget that isn't less than that of the whole run; and
+-- it does nothing else with these moves.
+abbrev pub ReactsToDrop : {S : Type 0} → (S → Request → HostReply → S → Type 0) → Watching S →
+    RecordView → Table → S → End → Type 0
+ReactsToDrop step w r new z e = IsBelowTheTop w.watched → IsUnended r.crossings → (m : ℕ) →
+    w.limit ≤ m → (d : IsDeletion step w r new z e) × (x : Outcome) × IsOpenOrDone x ×
+    DoesJust (spoken w) (at (tree_of w.tree) w.watched) (moves_of r.crossings) m x
+    (outs_of r.crossings) (at (after d.first (lent w)) w.watched)
 
 -- ## What is outside of it
 
@@ -269,8 +292,7 @@ pub record IsEntryRun {S : Type 0} (step : S → Request → HostReply → S →
       (limited limit (tree_of old)) o path (Eval script) during z reply
   pub runs : Runs (language (marks_of old).integers)
       (before (limited limit (tree_of old)) entry.events) path
-      (entering (language (marks_of old).integers) (limited limit (tree_of old) path) (Eval script))
-      (before during []) (Some reply)
+      ((language (marks_of old).integers).entry (Eval script)) (before during []) (Some reply)
   pub run : IsRun (hosted step) old o.outside path script (root_count old + limit) new z.outside e
   pub after : tree_of new ≡ effect [] (Limited (root_limit old)) during
   pub ends : end_at path reply ≡ Some (ending_of e)

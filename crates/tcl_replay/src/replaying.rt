@@ -8,18 +8,19 @@ ghost use Rattle.tcl_player.specs.Moves.{moves_in};
 ghost use Rattle.tcl_player.specs.Players.{Stands, player_of, result_of};
 ghost use Rattle.tcl_reactions.specs.Playing as playing;
 ghost use Rattle.tcl_reactions.specs.Playing.{IsOver, Lived, beginner, tree_left};
-ghost use Rattle.tcl_replay.specs.Replaying.{ReactsSo, Serves, is_waiting, unfit, wants_memory};
+ghost use Rattle.tcl_replay.specs.Replaying.{PlaysEntry, ReactsSo, Serves, is_waiting, unfit};
+ghost use Rattle.tcl_replay.specs.Replaying.{wants_memory};
 ghost use Rattle.tcl_replay.specs.Saved.{saved_of};
 ghost use Rattle.tcl_replay.specs.declared.replaying.Unplayed.TheVariants.{Memory};
 ghost use Rattle.tcl_run.specs.Entering.{whole_entry};
 ghost use Rattle.tcl_run_laws.specs.Budgets.{DepthsComeBack};
 ghost use Rattle.tcl_tree.specs.Own.{Own};
-ghost use Rattle.tcl_tree.specs.TreeOf.{marks_of, tree_of};
+ghost use Rattle.tcl_tree.specs.TreeOf.{Names, marks_of, tree_of};
 ghost use Rattle.tcl_recorder.specs.Crossings.{events_of};
 
 use crate::saving::Saved;
 use std::alloc::{AllocError, Global};
-use tcl_evaluation::waiting::enter;
+use tcl_evaluation::waiting::{enter, miss_entry};
 use tcl_player::moves::Move;
 use tcl_player::player::{Outcome, Player};
 use tcl_recorder::crossing::Crossing;
@@ -29,7 +30,7 @@ use tcl_run::outside::{Happening, Outside};
 use tcl_text::messages::{COUNT_TOO_LARGE, OUT_OF_MEMORY};
 use tcl_text::text::Text;
 use tcl_tree::node::MOST_STEPS;
-use tcl_tree::tree::Tree;
+use tcl_tree::tree::{Place, Tree};
 use tcl_value::value::Value;
 use thiserror::Error;
 
@@ -93,8 +94,9 @@ pub enum Unplayed {
 
 impl Saved {
     /// Plays moves to the interpreter by itself, in order, up to what first ends that, with at most
-    /// so many counted steps. But where it is left at an open call, each interpreter is in use
-    /// afterwards as deeply as before.
+    /// so many counted steps. An entry for a path where nobody stands is told the path. But where it
+    /// is left at an open call, each interpreter is in use afterwards as deeply as before, or not at
+    /// all, as one that was deleted and made anew.
     ///
     /// # Errors
     /// 412 and 404, which are looked for in this order; and 401.
@@ -237,7 +239,8 @@ fn play_entries<'a>(
     }
 }
 
-/// Plays one entry, which was handed in for the interpreter at the path.
+/// Plays one entry, which was handed in for the interpreter at the path. Where none is there, the
+/// player is told that.
 ///
 /// # Errors
 /// Want of memory.
@@ -248,14 +251,39 @@ fn play_entry<'a>(
     target: Vec<Text>,
     entry: Entry,
 ) -> Result<(), AllocError>
-    ensures serves { OnOk result
-        (Serves (marks_of tree.old).integers (tree_of tree.old) (player_of player.old)
-        target.items (whole_entry entry) (tree_of tree.new) (player_of player.new)) }
+    ensures plays { OnOk result
+        (PlaysEntry (marks_of tree.old).integers (tree_of tree.old) player.old target.items
+        (whole_entry entry) (tree_of tree.new) player.new) }
     ensures marks { OnOk result (marks_of tree.new ≡ marks_of tree.old) }
     ensures left { length (player_of player.new).left ≤ length (player_of player.old).left }
 {
     let path = target.as_slice();
-    let ended = enter(tree, alloc, player, path, entry);
+    match tree.place(path) {
+        Some(place) => serve_there(tree, alloc, player, path, place, entry),
+        None => miss_entry(tree, alloc, player, path, &entry),
+    }
+}
+
+/// Plays one entry to the interpreter at the path, which the place names.
+///
+/// # Errors
+/// Want of memory.
+fn serve_there<'a>(
+    tree: &mut Tree,
+    alloc: Global,
+    player: &mut Player<'a>,
+    path: &[Text],
+    place: Place,
+    entry: Entry,
+) -> Result<(), AllocError>
+    requires there { Names tree.old place path.now }
+    ensures serves { OnOk result
+        (Serves (marks_of tree.old).integers (tree_of tree.old) (player_of player.old) path.now
+        (whole_entry entry) (tree_of tree.new) (player_of player.new)) }
+    ensures marks { OnOk result (marks_of tree.new ≡ marks_of tree.old) }
+    ensures left { length (player_of player.new).left ≤ length (player_of player.old).left }
+{
+    let ended = enter(tree, alloc, player, path, place, entry);
     if is_want(&ended) {
         return Err(AllocError);
     }

@@ -15,7 +15,7 @@ ghost use Rattle.tcl_recorder.specs.Recording.{noted};
 ghost use Rattle.tcl_replay.specs.Watched.{AsksTheHostNothing, Counts, CountStaysWithin, IfDeleted};
 ghost use Rattle.tcl_replay.specs.Watched.{IfEnds, IfRefused, IsDeletion, IsEntryRun, IsRecord};
 ghost use Rattle.tcl_replay.specs.Watched.{LeavesTheOutside, LimitsStay, Reacts, ReactsSo};
-ghost use Rattle.tcl_replay.specs.Watched.{ReactsUntil, Stops, Watches, answer_of, unwatchable};
+ghost use Rattle.tcl_replay.specs.Watched.{ReactsToDrop, ReactsUntil, Stops, Watches, answer_of, unwatchable};
 ghost use Rattle.tcl_replay.specs.Watched.{watching};
 ghost use Rattle.tcl_replay.specs.declared.watching.Unwatched.TheVariants as unwatched;
 
@@ -40,9 +40,18 @@ pub enum Unwatched {
     /// 401, 402, 403, 404 or 122: there was no run, or none that came to its end.
     #[error(transparent)]
     Refused(Refused),
-    /// 411: the watched interpreter was deleted in the run, which ended so.
+    /// 411: the watched interpreter was deleted in the run.
     #[error("411: {}", WATCHED_DELETED)]
-    Deleted(End),
+    Deleted(Deletion),
+}
+
+/// What there is of an evaluation in which the watched interpreter was deleted, it or one above it.
+#[derive(Drop)]
+pub struct Deletion {
+    /// How the whole evaluation ended.
+    pub end: End,
+    /// What crossed the boundary until the interpreter was deleted.
+    pub until: Record,
 }
 
 impl fmt::Debug for Unwatched {
@@ -58,8 +67,8 @@ impl fmt::Debug for Unwatched {
 /// # Errors
 /// 402; 403 where no interpreter stands at the path, or none at `watched`; 404; 122: they are
 /// looked for in this order, and change nothing. 401, by which the tree is broken; until then the
-/// host was asked what the script asks it first. 411, with the end of the run, where the watched
-/// interpreter was deleted in it.
+/// host was asked what the script asks it first. 411, with the end of the run and the record until
+/// then, where the watched interpreter was deleted in it, or one above it.
 pub fn eval_watched<H: Host>(
     tree: &mut Tree,
     alloc: Global,
@@ -95,8 +104,11 @@ pub fn eval_watched<H: Host>(
         (λ r. IsRecord H.step (watching tree.old host path.now script.now limit watched.now) r.1
         tree.new result.0 r.0) }
     ensures deleted { IfDeleted result.1
-        (λ end. IsDeletion H.step (watching tree.old host path.now script.now limit watched.now)
-        tree.new result.0 end) }
+        (λ d. IsDeletion H.step (watching tree.old host path.now script.now limit watched.now)
+        d.until tree.new result.0 d.end) }
+    ensures reacts_to_drop { IfDeleted result.1
+        (λ d. ReactsToDrop H.step (watching tree.old host path.now script.now limit watched.now)
+        d.until tree.new result.0 d.end) }
     ensures reacts { IfOk result.1 (λ r. Reacts tree.old watched.now r.1.crossings tree.new) }
     ensures reacts_so { IfOk result.1 (λ r. ReactsSo tree.old watched.now r.1.crossings tree.new) }
     ensures reacts_until { IfOk result.1
@@ -214,7 +226,8 @@ fn run<H: Host>(
     }
 }
 
-/// Tells a recorder that a script comes to the interpreter at the path. What it holds isn't told.
+/// Tells a recorder that a script comes to the interpreter at the path, where one stands. What it
+/// holds isn't told.
 ///
 /// # Errors
 /// Want of memory.
@@ -246,7 +259,7 @@ fn outcome_of(
         Err(refused) => Err(Unwatched::Refused(refused)),
         Ok(end) => {
             if deleted {
-                return Err(Unwatched::Deleted(end));
+                return Err(Unwatched::Deleted(Deletion { end, until: kept }));
             }
             Ok((end, kept))
         }

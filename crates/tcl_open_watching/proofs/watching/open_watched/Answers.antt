@@ -1,7 +1,8 @@
 use Rattle.std.proofs.Common.{◌∙◌, refl, sym}
 use Rattle.tcl_eval.proofs.Starting.{at_none, counts_stay}
-use Rattle.tcl_open_watching.proofs.Answers.{deletions, follows, records, runs}
+use Rattle.tcl_open_watching.proofs.Answers.{deletions, follows, follows_drop, records, runs}
 use Rattle.tcl_replay.proofs.Before.{both_there}
+use Rattle.tcl_open_watching.specs.OpenWatched.{ReactsToDrop}
 use Rattle.tcl_open_watching.proofs.Recorded as laws
 use Rattle.tcl_replay.specs.Watched.{AsksTheHostNothing, CountStaysWithin, Reacts, ReactsSo, ReactsUntil, unwatchable}
 use Rattle.tcl_open_watching.proofs.watching.open_watched.Goals as goal
@@ -20,7 +21,13 @@ returns-clause-given_up g c = at_none (unwatchable c.args.tree.now c.args.path.n
 pub returns-clause-deleted : goal.returns-clause-deleted
 returns-clause-deleted g c =
     let there = both_there c.args.tree.now c.args.path.now c.args.script.now c.args.limit c.args.watched.now (sym c.refusal_to_watch.ensures ∙ c.in_default.is) in
-    deletions g.O.Outside.goes g.O.Outside.loses c.args.tree.now c.args.outside c.args.path.now c.args.script.now c.args.limit c.args.watched.now c.watch.new.tree c.watch.result.0 c.watch.result.1 there.0 c.watch.ensures.watches
+    deletions g.O.Outside.goes g.O.Outside.loses c.args.tree.now c.args.outside c.args.path.now c.args.script.now c.args.limit c.args.watched.now c.watch.new.tree c.watch.result.0 c.watch.result.1 there.0 there.1 c.watch.ensures.watches
+
+pub returns-clause-reacts_to_drop : goal.returns-clause-reacts_to_drop
+returns-clause-reacts_to_drop g c =
+    let there = both_there c.args.tree.now c.args.path.now c.args.script.now c.args.limit c.args.watched.now (sym c.refusal_to_watch.ensures ∙ c.in_default.is) in
+    follows_drop g.O.Outside.goes g.O.Outside.loses c.args.tree.now c.args.outside c.args.path.now c.args.script.now c.args.limit c.args.watched.now c.watch.new.tree c.watch.result.0 (λ r e. ReactsToDrop g.O.Outside.goes c.args.tree.now c.args.outside c.args.path.now c.args.script.now c.args.limit c.args.watched.now r c.watch.new.tree c.watch.result.0 e) c.watch.result.1 (deletions g.O.Outside.goes g.O.Outside.loses c.args.tree.now c.args.outside c.args.path.now c.args.script.now c.args.limit c.args.watched.now c.watch.new.tree c.watch.result.0 c.watch.result.1 there.0 there.1 c.watch.ensures.watches)
+    (λ r e w. laws.reacts_to_drop g.O.Outside.goes c.args.tree.now c.args.outside c.args.path.now c.args.script.now c.args.limit c.args.watched.now r c.watch.new.tree c.watch.result.0 e w)
 
 pub returns-clause-reacts : goal.returns-clause-reacts
 returns-clause-reacts g c =

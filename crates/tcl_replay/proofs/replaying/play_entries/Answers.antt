@@ -14,8 +14,8 @@ entries-init c = (begun, refl)
 pub entries-preserved : goal.entries-preserved
 entries-preserved c =
     let begins = where_some (λ x. Begins (player_of c.entries.player) x.0.items (whole_entry x.1) (player_of c.next_entry.new.self)) c.in_ok-target.field-0 _ c.in-Some.is c.in_ok-target.ensures.begins in (
-      goes_on c.args.tree.now.integers (tree_of c.args.tree.now) (tree_of c.play_entry.new.tree) c.entries.tree (player_of c.args.player.now) (player_of c.entries.player) (player_of c.next_entry.new.self) (player_of c.play_entry.new.player) _ _
-          (ap (λ (m : Marks). m.integers) c.entries.invariant.1) c.entries.invariant.0 begins c.in_ok-play_entry-in-Some.ensures.serves,
+      goes_on c.args.tree.now.integers (tree_of c.args.tree.now) (tree_of c.play_entry.new.tree) c.entries.tree (player_of c.args.player.now) c.entries.player c.next_entry.new.self c.play_entry.new.player _ _
+          (ap (λ (m : Marks). m.integers) c.entries.invariant.1) c.entries.invariant.0 begins c.in_ok-play_entry-in-Some.ensures.plays,
       c.in_ok-play_entry-in-Some.ensures.marks ∙ c.entries.invariant.1,
     )
 

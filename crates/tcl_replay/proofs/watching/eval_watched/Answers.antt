@@ -1,7 +1,7 @@
 use Rattle.std.proofs.Common.{◌∙◌, refl, sym}
-use Rattle.tcl_replay.specs.Watched.{AsksTheHostNothing, Counts, CountStaysWithin, LeavesTheOutside, LimitsStay, Reacts, ReactsSo, ReactsUntil, unwatchable, watching}
+use Rattle.tcl_replay.specs.Watched.{AsksTheHostNothing, Counts, CountStaysWithin, LeavesTheOutside, LimitsStay, Reacts, ReactsSo, ReactsToDrop, ReactsUntil, unwatchable, watching}
 use Rattle.tcl_replay.proofs.Before.{both_there}
-use Rattle.tcl_replay.proofs.Answers.{deletions, follows, records, stops, wholes}
+use Rattle.tcl_replay.proofs.Answers.{deletions, follows, follows_drop, records, stops, wholes}
 use Rattle.tcl_replay.proofs.Recorded as recorded
 use Rattle.tcl_eval.proofs.Starting.{at_none, counts_stay}
 use Rattle.tcl_replay.proofs.Unfinished.{if_refused_so}
@@ -33,6 +33,12 @@ pub returns-clause-deleted : goal.returns-clause-deleted
 returns-clause-deleted g c =
     let there = both_there c.args.tree.now c.args.path.now c.args.script.now c.args.limit c.args.watched.now (sym c.refusal_to_watch.ensures ∙ c.in_default.is) in
     deletions g.H.Host.step c.args.tree.now c.args.host c.args.path.now c.args.script.now c.args.limit c.args.watched.now c.watch.new.tree c.watch.result.0 c.watch.result.1 there.1 c.watch.ensures.watches
+
+pub returns-clause-reacts_to_drop : goal.returns-clause-reacts_to_drop
+returns-clause-reacts_to_drop g c =
+    let there = both_there c.args.tree.now c.args.path.now c.args.script.now c.args.limit c.args.watched.now (sym c.refusal_to_watch.ensures ∙ c.in_default.is) in
+    follows_drop g.H.Host.step c.args.tree.now c.args.host c.args.path.now c.args.script.now c.args.limit c.args.watched.now c.watch.new.tree c.watch.result.0 (λ r e. ReactsToDrop g.H.Host.step (watching c.args.tree.now c.args.host c.args.path.now c.args.script.now c.args.limit c.args.watched.now) r c.watch.new.tree c.watch.result.0 e) c.watch.result.1 (deletions g.H.Host.step c.args.tree.now c.args.host c.args.path.now c.args.script.now c.args.limit c.args.watched.now c.watch.new.tree c.watch.result.0 c.watch.result.1 there.1 c.watch.ensures.watches)
+    (λ r e w. recorded.reacts_to_drop g.H.Host.step c.args.tree.now c.args.host c.args.path.now c.args.script.now c.args.limit c.args.watched.now r c.watch.new.tree c.watch.result.0 e w)
 
 pub returns-clause-reacts : goal.returns-clause-reacts
 returns-clause-reacts g c =

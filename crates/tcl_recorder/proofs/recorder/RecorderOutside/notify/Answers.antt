@@ -44,7 +44,7 @@ returns-in_ok-path-in-Entered-clause-told g c =
     subst (λ (h : Happening). OnOk c.call_enters.result (Notified (recorded g.O.Outside.goes) g.O.Outside.hands_in T old h new)) (sym c.in-Entered.is)
     (on_ok_weaker c.call_enters.result
     (λ e p a at up. enters g.O.Outside.goes (tree_of T) old new c.as_slice.result.now p c.in-Entered.up a c.in-Entered.down.now (whole_entry c.in-Entered.entry.now)
-    (c.as_slice.ensures.value ∙ c.in_ok-path-in-Entered.ensures.named p at) c.if-deleted.false up e refl refl (told p a at up))
+    (c.as_slice.ensures.value ∙ c.in_ok-path-in-Entered.ensures.named p at) c.if-self.false up e refl refl (told p a at up))
     c.call_enters.ensures)
 
 pub returns-in_ok-path-in-Returned-clause-told : goal.returns-in_ok-path-in-Returned-clause-told
@@ -63,7 +63,7 @@ returns-in_ok-path-in-Returned-clause-told g c =
     (on_ok_weaker c.call_returns.result
     (λ e. IfEnded-both c.in-Returned.ended.now (λ s. IfEnded c.in-Returned.told.now (Kept s)) (λ s. IfEnded c.in-Returned.told.now (Inner s)) (λ s. IfEnded c.in-Returned.told.now (Outer s))
     (λ s x y. IfEnded-both c.in-Returned.told.now (Kept s) (Inner s) (Outer s)
-    (λ r kept inner p a d at up is. returns g.O.Outside.goes (tree_of T) old new q p n a down s r (c.as_slice-in-Returned.ensures.value ∙ c.in_ok-path-in-Returned.ensures.stood p (holds_stood T c.in-Returned.caller p d at)) c.if-deleted.false up kept refl refl (inner p a d at up is)) x y)
+    (λ r kept inner p a d at up is. returns g.O.Outside.goes (tree_of T) old new q p n a down s r (c.as_slice-in-Returned.ensures.value ∙ c.in_ok-path-in-Returned.ensures.stood p (holds_stood T c.in-Returned.caller p d at)) c.if-self.false up kept refl refl (inner p a d at up is)) x y)
     e told)
     c.call_returns.ensures)
 
@@ -83,7 +83,7 @@ returns-in_ok-path-in-Missed-clause-told g c =
     subst (λ (h : Happening). OnOk c.call_misses.result (Notified (recorded g.O.Outside.goes) g.O.Outside.hands_in T old h new)) (sym c.in-Missed.is)
     (on_ok_weaker c.call_misses.result
     (λ e. IfEnded-both c.in-Missed.told.now Kept Inner Outer
-    (λ r kept inner p a at up. misses g.O.Outside.goes (tree_of T) old new q p n down i r (c.as_slice-in-Missed.ensures.value ∙ c.in_ok-path-in-Missed.ensures.named p at) c.if-deleted.false kept refl refl (inner p a at up))
+    (λ r kept inner p a at up. misses g.O.Outside.goes (tree_of T) old new q p n down i r (c.as_slice-in-Missed.ensures.value ∙ c.in_ok-path-in-Missed.ensures.named p at) c.if-self.false kept refl refl (inner p a at up))
     e told)
     c.call_misses.ensures)
 
@@ -96,7 +96,7 @@ returns-in_ok-path-in-PassedTop-clause-told g c =
     subst (λ (h : Happening). OnOk c.call_goes.result (Notified (recorded g.O.Outside.goes) g.O.Outside.hands_in T old h new)) (sym c.in-PassedTop.is)
     (on_ok_weaker c.call_goes.result
     (λ e p at up. crosses g.O.Outside.goes (tree_of T) old new None c.as_slice-in-PassedTop.result.now p (Out c.in-PassedTop.up c.in-PassedTop.down.now (whole_entry c.in-PassedTop.entry.now))
-    (c.as_slice-in-PassedTop.ensures.value ∙ c.in_ok-path-in-PassedTop.ensures.named p at) c.if-deleted.false refl (λ w. w) e refl (λ f. absurd f) (told p at up))
+    (c.as_slice-in-PassedTop.ensures.value ∙ c.in_ok-path-in-PassedTop.ensures.named p at) c.if-self.false refl (λ w. w) e refl (λ f. absurd f) (told p at up))
     c.call_goes.ensures)
 
 pub returns-in-EntryDone-clause-told : goal.returns-in-EntryDone-clause-told
@@ -107,7 +107,7 @@ returns-in-EntryDone-clause-told g c =
     let told = subst (λ (h : Happening). Notified g.O.Outside.goes g.O.Outside.hands_in T old.outside h c.notify.new.self) c.in-EntryDone.is c.in_ok-notify.ensures.told in
     subst (λ (h : Happening). OnOk c.entry_ends.result (Notified (recorded g.O.Outside.goes) g.O.Outside.hands_in T old h new)) (sym c.in-EntryDone.is)
     (on_ok_weaker c.entry_ends.result
-    (λ e. leaves g.O.Outside.goes (tree_of T) old new c.in-EntryDone.target.now c.in-EntryDone.ended.now c.if-deleted.false c.in_ok-goes_on.ensures refl refl e told)
+    (λ e. leaves g.O.Outside.goes (tree_of T) old new c.in-EntryDone.target.now c.in-EntryDone.ended.now c.if-self.false c.in_ok-goes_on.ensures refl refl e told)
     c.entry_ends.ensures)
 
 pub returns-in_ok-path-in-ExitCameBack-clause-told : goal.returns-in_ok-path-in-ExitCameBack-clause-told
@@ -122,8 +122,8 @@ returns-in_ok-path-in-ExitCameBack-clause-told g c =
     let told = subst (λ (h : Happening). Notified g.O.Outside.goes g.O.Outside.hands_in T old.outside h c.notify.new.self) c.in-ExitCameBack.is c.in_ok-notify.ensures.told in
     subst (λ (h : Happening). OnOk c.exit_comes.result (Notified (recorded g.O.Outside.goes) g.O.Outside.hands_in T old h new)) (sym c.in-ExitCameBack.is)
     (on_ok_weaker c.exit_comes.result
-    (λ e may p d at up. crosses g.O.Outside.goes (tree_of T) old new (Some (h, _)) c.as_slice-in-ExitCameBack.result.now p (Back h (Replied (Exit c.in-ExitCameBack.status)))
-    (c.as_slice-in-ExitCameBack.ensures.value ∙ c.in_ok-path-in-ExitCameBack.ensures.stood p (holds_stood T c.in-ExitCameBack.caller p d at)) c.if-deleted.false refl (λ w. w) e refl (λ f. absurd f) (told may p d at up))
+    (λ e may p d at up. crosses g.O.Outside.goes (tree_of T) old new (Some (h, _, _)) c.as_slice-in-ExitCameBack.result.now p (Back h (Replied (Exit c.in-ExitCameBack.status)))
+    (c.as_slice-in-ExitCameBack.ensures.value ∙ c.in_ok-path-in-ExitCameBack.ensures.stood p (holds_stood T c.in-ExitCameBack.caller p d at)) c.if-self.false refl (λ w. w) e refl (λ f. absurd f) (told may p d at up))
     (subst Kept (to_z-of_z w64 c.in-ExitCameBack.status fits_it) c.exit_comes.ensures))
 
 pub returns-in-Unfound-clause-told : goal.returns-in-Unfound-clause-told
@@ -134,9 +134,9 @@ returns-in-Unfound-clause-told g c =
     let told = subst (λ (h : Happening). Notified g.O.Outside.goes g.O.Outside.hands_in T old.outside h c.notify.new.self) c.in-Unfound.is c.in_ok-notify.ensures.told in
     subst (λ (h : Happening). OnOk c.stray_comes.result (Notified (recorded g.O.Outside.goes) g.O.Outside.hands_in T old h new)) (sym c.in-Unfound.is)
     (on_ok_weaker c.stray_comes.result
-    (λ e. strays g.O.Outside.goes g.O.Outside.hands_in (tree_of T) old new c.in-Unfound.target.now (whole_entry c.in-Unfound.entry.now) c.in-Unfound.told.now c.if-deleted.false c.in_ok-goes_on.ensures refl e told)
+    (λ e. strays g.O.Outside.goes g.O.Outside.hands_in (tree_of T) old new c.in-Unfound.target.now (whole_entry c.in-Unfound.entry.now) c.in-Unfound.told.now c.if-self.false c.in_ok-goes_on.ensures refl e told)
     c.stray_comes.ensures)
 
 -- once it was dropped
-pub returns-then-deleted-clause-told : goal.returns-then-deleted-clause-told
-returns-then-deleted-clause-told g c = silent_all g.O.Outside.goes g.O.Outside.hands_in c.args.tree.now c.args.self.now c.args.happening c.notify.new.self c.if-deleted.true c.in_ok-goes_on.ensures c.in_ok-notify.ensures.told
+pub returns-then-self-clause-told : goal.returns-then-self-clause-told
+returns-then-self-clause-told g c = silent_all g.O.Outside.goes g.O.Outside.hands_in c.args.tree.now c.args.self.now c.args.happening c.notify.new.self c.if-self.true c.in_ok-goes_on.ensures c.in_ok-notify.ensures.told
