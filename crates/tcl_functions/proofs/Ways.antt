@@ -27,9 +27,11 @@ use Rattle.tcl_host.specs.declared.request.Request.{Request}
 use Rattle.tcl_run.proofs.Endings.{Interrupts-more, IfEnded-more}
 use Rattle.tcl_run.proofs.Fitting.{own_reply, told_fits}
 use Rattle.tcl_run.specs.Ends.{IfEnded, Interrupts}
-use Rattle.tcl_run.specs.Entering.{request_of}
+use Rattle.tcl_run.specs.Entering.{request_of, whole_entry}
 use Rattle.tcl_run.specs.Notifying.{WasUnfound}
 use Rattle.tcl_run.specs.Outsides.{AnswersFor, ComesNext, Enters, Misses, Returns, reply_of, told_to}
+use Rattle.tcl_run.specs.declared.entry.Entry.{Entry as CodeEntry}
+use Rattle.tcl_run.specs.declared.entry.Entry.TheVariants as entry
 use Rattle.tcl_run.specs.declared.interruption.Interruption.{Interruption}
 use Rattle.tcl_run.specs.declared.outside.Turn.{Turn}
 use Rattle.tcl_run.specs.declared.outside.Turn.TheVariants as turn
@@ -111,12 +113,16 @@ module _ {F H : Type 0} (serves : Serving F) (step : Hosting H) where
   )
 
   -- the host's reply to a request
-  pub host_answers : (T : Tree Own) (o z : WithFunctions F H) (p : Path) (d : ℕ) (q : Request) (a : HostReply) → step o.host q a z.host → z.functions ≡ o.functions → z.calls.items ≡ o.calls.items → z.entries ≡ o.entries → z.exits ≡ o.exits →
-      is_reply_to a q ≡ true → AnswersFor (going serves step) T o p d None (AskHost (request_of q)) z (Heard (reply_of a))
-  host_answers T o z p d q a steps functions calls entries exits fits = (
-    host_back o z d q a (gone d T p) (record { request = q; reply = a; asked = refl; heard = refl; steps = steps; functions = functions; calls = calls; entries = entries; exits = exits }),
+  host_answers : (T : Tree Own) (o : WithFunctions F H) (host : H) (p : Path) (d : ℕ) (q : Request) (a : HostReply) → step o.host q a host → is_reply_to a q ≡ true → AnswersFor (going serves step) T o p d None (AskHost (request_of q)) (record o { host = host }) (Heard (reply_of a))
+  host_answers T o host p d q a steps fits = (
+    host_back o (record o { host = host }) d q a (gone d T p) (record { request = q; reply = a; asked = refl; heard = refl; steps = steps; functions = refl; calls = refl; entries = refl; exits = refl }),
     told_fits d T p None (AskHost (request_of q)) (Heard (reply_of a)) refl (own_reply a q fits),
   )
+
+  pub host_comes : (T : Tree Own) (o : WithFunctions F H) (host : H) (p : Path) (d : ℕ) (h : Height) (i : CodeEntry) (q : Request) (a : HostReply) → h ≡ None → i ≡ entry.AskHost q → step o.host q a host → is_reply_to a q ≡ true →
+      AnswersFor (going serves step) T o p d h (whole_entry i) (record o { host = host }) (Heard (reply_of a))
+  host_comes T o host p d h i q a none is steps fits = subst (λ (k : Height). AnswersFor (going serves step) T o p d k (whole_entry i) (record o { host = host }) (Heard (reply_of a))) (sym none)
+      (subst (λ (j : CodeEntry). AnswersFor (going serves step) T o p d None (whole_entry j) (record o { host = host }) (Heard (reply_of a))) (sym is) (host_answers T o host p d q a steps fits))
 
   pub comes_next : (T : Tree Own) (o z : WithFunctions F H) (h : Height) (n : ℕ) (p : Path) (d : ℕ) (i : Entry) (t : Result Turn Interruption) → h ≡ Some n → rise_to h p ≡ None → Serves serves o z t → ComesNext (going serves step) (Unit {0}) T o p d h i z t
   comes_next T o z h n p d i (Ok (turn.Entry target entry)) is top g = (g, tt)

@@ -9,14 +9,14 @@ use Rattle.tcl_core.specs.Entries.Answer.{Replied, Heard, Nobody}
 use Rattle.tcl_core.specs.Entries.Entry.{AskHost}
 use Rattle.tcl_core.specs.Entries.Said.{Finished, Told as told_so, Missed}
 use Rattle.tcl_core.specs.Paths.{Path, Place, Height, falls, together, rise_to}
-use Rattle.tcl_core.specs.Programs.{Act, Calls_only, Prog, Table, Wait, spot, closes, or_lost}
+use Rattle.tcl_core.specs.Programs.{Act, Calls_only, Prog, Table, Wait, spot, closes}
 use Rattle.tcl_core.specs.Programs.Act.{Look, Change, Charge, Limit, LimitDepth, Make, Drop}
 use Rattle.tcl_core.specs.Programs.Next.{Off}
 use Rattle.tcl_core.specs.Programs.Prog.{done, exit, act, go, inside, call, wait}
 use Rattle.tcl_core.specs.Runs.{carried, carried_by, ended, gone, gone_from, height_of, lessened, reached, returned}
 use Rattle.tcl_core.specs.Execution.{Executes, event, passing}
 use Rattle.tcl_core.specs.Execution.Executes.{completed, exited, acted, refused, went, passed, wrapped, wrapped_passed, too_deep, shut, called, called_passed, unreached, called_out, answered, heard, missed, answered_passed, entered, entered_exiting, unfound}
-use Rattle.tcl_core.specs.Trees.{Event, Node, Tree, What, at, depth_of, effect}
+use Rattle.tcl_core.specs.Trees.{Event, Tree, What, at, depth_of, effect}
 use Rattle.tcl_core.specs.Trees.What.{Out, In, Done, Back, Unfound}
 use Rattle.tcl_core.proofs.PathLaws.{rise_back}
 use Rattle.tcl_core.proofs.Unended.{IsNoCut, NotCut}

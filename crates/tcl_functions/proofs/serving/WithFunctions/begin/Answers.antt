@@ -1,4 +1,4 @@
-use Rattle.std.proofs.Common.{refl, ◌∙◌}
+use Rattle.std.proofs.Common.{refl}
 use Rattle.tcl_functions.proofs.serving.WithFunctions.begin.Goals as goal
 
 pub returns-clause-begins : goal.returns-clause-begins
