@@ -1,5 +1,5 @@
 -- What a record becomes.
-use Rattle.std.proofs.Common.{◌≡◌, Bool, true, false, List, [], ◌∷◌, ◌++◌, Some, None, length, sym, ◌∙◌, ap, append-nil}
+use Rattle.std.proofs.Common.{◌≡◌, true, false, List, [], ◌∷◌, ◌++◌, Some, None, length, sym, ◌∙◌, ap, append-nil}
 use Rattle.std.specs.Prelude.{◌==◌}
 use Rattle.tcl_core.specs.Endings.{Completion, Reply}
 use Rattle.tcl_core.specs.Entries.{Answer, Entry}
