@@ -1,5 +1,5 @@
 -- What a player's calls come to.
-use Rattle.std.proofs.Common.{◌≡◌, ℕ, ℤ, Bool, true, false, List, ◌∷◌, ◌++◌, length, Option, Some, None, refl, sym, ap, subst, ◌∙◌}
+use Rattle.std.proofs.Common.{◌≡◌, Global, ℕ, ℤ, Bool, true, false, List, ◌∷◌, ◌++◌, length, Option, Some, None, refl, sym, ap, subst, ◌∙◌}
 use Rattle.std.specs.Option.{option_map}
 use Rattle.std.specs.declared.vec.Vec.{Vec}
 use Rattle.std.specs.Prelude.{is_some, not, IfNone, IfSome, Result, Ok, Err}
@@ -188,7 +188,7 @@ pub answered : (T : Tree Own) (p : Place) (d : ℕ) (o z : Player Own) (h : Heig
 answered T p d o z h i m answer e g = subst (λ n. GoesOn T p d o h i (move_of n) z) e g
 
 -- an entry, of which copies are handed in
-pub entered : (T : Tree Own) (p : Place) (d : ℕ) (o z : Player Own) (h : Height) (i : Entry) (m : kept.Move) {A : Type 0} (target : Vec (List ℕ) A) (q : CodeEntry) (path : Path) (r : Entry) → m ≡ moving.Enter target q → path ≡ target.items → r ≡ whole_entry q → GoesOn T p d o h i (move_of m) z →
+pub entered : (T : Tree Own) (p : Place) (d : ℕ) (o z : Player Own) (h : Height) (i : Entry) (m : kept.Move) (target : Vec (List ℕ) Global) (q : CodeEntry) (path : Path) (r : Entry) → m ≡ moving.Enter target q → path ≡ target.items → r ≡ whole_entry q → GoesOn T p d o h i (move_of m) z →
     HandsIn o path r z
 entered T p d o z h i m target q path r e same copied g =
     let hands : HandsIn o target.items (whole_entry q) z = subst (λ n. GoesOn T p d o h i (move_of n) z) e g in
