@@ -1,17 +1,17 @@
 -- What an outside with a budget makes of what it is told, and how lives go on.
-use Rattle.std.proofs.Common.{◌≡◌, ℕ, zero, suc, ℤ, Bool, true, false, List, [], ◌∷◌, ◌++◌, ◌≤◌, ◌<◌, ◌+◌, length, Option, Some, None, refl, sym, ap, subst, ◌∙◌, ◌⊎◌, arith, inl, inr}
+use Rattle.std.proofs.Common.{◌≡◌, ℕ, zero, suc, ℤ, Bool, true, false, List, [], ◌≤◌, ◌<◌, ◌+◌, Option, Some, None, refl, sym, ap, subst, ◌∙◌, ◌⊎◌, arith, inl, inr}
 use Rattle.std.specs.Option.{option_map}
-use Rattle.std.specs.Prelude.{IfErr, IfOk, IfNone, IfSome, OnOk, Result, Ok, Err, is_some}
-use Rattle.tcl_core.specs.Endings.{Completion, Reply, ok}
+use Rattle.std.specs.Prelude.{IfErr, IfOk, IfNone, IfSome, Result, Ok, Err, is_some}
+use Rattle.tcl_core.specs.Endings.{Reply, ok}
 use Rattle.tcl_core.specs.Endings.Cause.{Over}
 use Rattle.tcl_core.specs.Endings.Meter.{Count}
 use Rattle.tcl_core.specs.Endings.Reply.{Completed, Stop, Exit, Cut}
 use Rattle.tcl_core.specs.Entries.{Answer, Entry}
 use Rattle.tcl_core.specs.Entries.Answer.{Replied, Heard, Nobody}
-use Rattle.tcl_core.specs.Execution.{Crossings, Executes, event, hears}
+use Rattle.tcl_core.specs.Execution.{Crossings, event}
 use Rattle.tcl_core.specs.Lives as core_lives
 use Rattle.tcl_core.specs.Lives.{limit_at}
-use Rattle.tcl_core.specs.Paths.{Height, Path, Place, rise, rise_to}
+use Rattle.tcl_core.specs.Paths.{Height, Path, rise, rise_to}
 use Rattle.tcl_core.specs.Programs.{Wait}
 use Rattle.tcl_core.specs.Runs.{Ending, carried, gone, is_told}
 use Rattle.tcl_core.specs.Trees as core
@@ -22,7 +22,6 @@ use Rattle.tcl_core.specs.Views.{steps_of}
 use Rattle.tcl_evaluation.specs.Waiting.{EndsEntry, ExitOf, MissesEntry}
 use Rattle.tcl_flow.specs.Stopping as stopping
 use Rattle.tcl_flow.specs.View.{completion_of}
-use Rattle.tcl_language.specs.Interpreters.{nobody_at}
 use Rattle.tcl_language.specs.Table.{serve}
 use Rattle.tcl_language_laws.specs.Language.{language}
 use Rattle.tcl_reactions.specs.Moving as moving
@@ -37,7 +36,7 @@ use Rattle.tcl_run.proofs.Quiet.{within_unchanged}
 use Rattle.tcl_run.specs.Ends.{IfEnded, WhereMemory, cause_of}
 use Rattle.tcl_run.specs.Entering.{whole_entry}
 use Rattle.tcl_run.specs.Notifying.{Notified, WasUnfound}
-use Rattle.tcl_run.specs.Outsides.{Answers, AnswersFor, ComesNext, Enters, Going, Misses, Returns, told_to}
+use Rattle.tcl_run.specs.Outsides.{AnswersFor, ComesNext, Enters, Going, Misses, Returns, told_to}
 use Rattle.tcl_run.specs.Runs.{Comes, IsLoss, IsSteady, Proceeds, steps_at, ways}
 use Rattle.tcl_run.specs.Runs.IsLoss.{lost, unlost}
 use Rattle.tcl_run.specs.Runs.Proceeds.{given_up}

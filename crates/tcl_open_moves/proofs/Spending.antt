@@ -14,8 +14,7 @@ use Rattle.tcl_core.specs.Views.{steps_of}
 use Rattle.tcl_core.proofs.Callers.{fit}
 use Rattle.tcl_core.proofs.Following.{called_on, chain-append, makes}
 use Rattle.tcl_core.proofs.PathLaws.{Some-inj, not_both}
-use Rattle.tcl_reactions.specs.Moving as moving
-use Rattle.tcl_reactions.specs.Moving.{Budgeted, Goes, Halt, Lived, budgeted, halt_by, meets_by, unwinds}
+use Rattle.tcl_reactions.specs.Moving.{Budgeted, Goes, Halt, Lived, budgeted, halt_by, meets_by}
 use Rattle.tcl_reactions.specs.Moving.Halt.{Cuts, Spends, Refuses}
 
 -- an answer is no refusal of a step

@@ -1,4 +1,3 @@
-use Rattle.std.proofs.Common.{◌≡◌}
 use Rattle.tcl_core.specs.Lives.Outcome.{Finished}
 use Rattle.tcl_language_laws.specs.Language.{language}
 use Rattle.tcl_reactions.specs.Moving.{Lived}
