@@ -1,7 +1,8 @@
 -- What a player's calls come to.
-use Rattle.std.proofs.Common.{◌≡◌, ℕ, ℤ, Bool, true, false, List, ◌∷◌, ◌++◌, length, Option, Some, None, refl, sym, ap, subst, ◌∙◌}
+use Rattle.std.proofs.Common.{◌≡◌, Global, ℕ, ℤ, Bool, true, false, List, ◌∷◌, ◌++◌, length, Option, Some, None, refl, sym, ap, subst, ◌∙◌}
 use Rattle.std.specs.Option.{option_map}
-use Rattle.std.specs.Prelude.{is_none, is_some, IfNone, IfSome, Result, Ok, Err}
+use Rattle.std.specs.declared.vec.Vec.{Vec}
+use Rattle.std.specs.Prelude.{is_some, not, IfNone, IfSome, Result, Ok, Err}
 use Rattle.tcl_core.specs.Endings.{Reply}
 use Rattle.tcl_core.specs.Endings.Cause.{Over}
 use Rattle.tcl_core.specs.Endings.Reply.{Completed, Stop, Exit, Cut}
@@ -22,6 +23,8 @@ use Rattle.tcl_reactions.specs.Playing.Fate.{Unfits, EndsAbove}
 use Rattle.tcl_reactions.proofs.Free.{same_exit, own_exit}
 use Rattle.tcl_run.specs.Outsides as outsides
 use Rattle.tcl_run.specs.Ends.{IfEnded}
+use Rattle.tcl_run.specs.Entering.{whole_entry}
+use Rattle.tcl_run.specs.declared.entry.Entry.{Entry as CodeEntry}
 use Rattle.tcl_run.specs.Notifying.{WasUnfound}
 use Rattle.tcl_run.specs.Outsides.{AnswersFor, ComesNext, Enters, Misses, OnEntry, Returns, told_to}
 use Rattle.tcl_run.proofs.Endings.{IfEnded-more}
@@ -184,14 +187,20 @@ pub answered : (T : Tree Own) (p : Place) (d : ℕ) (o z : Player Own) (h : Heig
     Answers T p o (Some (h, i, d)) (answer_of answer) z × (is_told (gone d T p) h i (answer_of answer) ≡ true)
 answered T p d o z h i m answer e g = subst (λ n. GoesOn T p d o h i (move_of n) z) e g
 
+-- an entry, of which copies are handed in
+pub entered : (T : Tree Own) (p : Place) (d : ℕ) (o z : Player Own) (h : Height) (i : Entry) (m : kept.Move) (target : Vec (List ℕ) Global) (q : CodeEntry) (path : Path) (r : Entry) → m ≡ moving.Enter target q → path ≡ target.items → r ≡ whole_entry q → GoesOn T p d o h i (move_of m) z →
+    HandsIn o path r z
+entered T p d o z h i m target q path r e same copied g =
+    let hands : HandsIn o target.items (whole_entry q) z = subst (λ n. GoesOn T p d o h i (move_of n) z) e g in
+    subst (λ x. HandsIn o x r z) (sym same) (subst (λ x. HandsIn o target.items x z) (sym copied) hands)
+
 pub told_on : (f : Option kept_fate.Fate) (o z : Player Own) (ev : Event Own) → is_some f ≡ false → z ≡ telling o ev → Tells (option_map fate_of f) o ev z
 told_on None o z ev e g = g
 told_on (Some x) o z ev e g = let clash : true ≡ false = e in absurd cc
 
 -- whether the caller is gone doesn't matter after an exit
-pub by_test : {A : Type 0} (o : Option A) (b : Bool) → b ≡ is_none o → b ≡ false → is_some o ≡ true
-by_test None b e f = let clash : true ≡ false = sym e ∙ f in absurd cc
-by_test (Some x) b e f = refl
+pub by_test : {A : Type 0} (o : Option A) (b : Bool) → is_some o ≡ not b → b ≡ false → is_some o ≡ true
+by_test o b e f = e ∙ ap not f
 
 pub known_exit : (e : Option ℤ) (g l : Option ℕ) → is_some e ≡ true → IsKnown e g l
 known_exit None g l x = let clash : false ≡ true = x in absurd cc

@@ -76,12 +76,12 @@ pub(crate) fn answers_call(
 ) -> bool
     ensures { result ≡ is_told gone up (whole_entry entry.now) (answer_of answer.now) }
 {
-    if let Some(levels) = gone {
-        return answers_gone(levels, up, answer);
-    }
-    match up {
-        Some(levels) => answers_alias(levels, answer),
-        None => answers_request(entry, answer),
+    match gone {
+        Some(levels) => answers_gone(levels, up, answer),
+        None => match up {
+            Some(height) => answers_alias(height, answer),
+            None => answers_request(entry, answer),
+        },
     }
 }
 

@@ -1,11 +1,12 @@
 -- What a record becomes.
-use Rattle.std.proofs.Common.{◌≡◌, List, [], ◌∷◌, ◌++◌, Some, None, sym, ◌∙◌, ap, append-nil}
-use Rattle.tcl_core.specs.Endings.{Reply}
+use Rattle.std.proofs.Common.{◌≡◌, true, false, List, [], ◌∷◌, ◌++◌, Some, None, length, sym, ◌∙◌, ap, append-nil}
+use Rattle.std.specs.Prelude.{◌==◌}
+use Rattle.tcl_core.specs.Endings.{Completion, Reply}
 use Rattle.tcl_core.specs.Entries.{Answer, Entry}
 use Rattle.tcl_core.specs.Paths.{Path, Place, Height}
 use Rattle.tcl_core.specs.Execution.{event}
 use Rattle.tcl_core.specs.Trees.{Event, What}
-use Rattle.tcl_core.specs.Trees.What.{Out, In, Done, Back}
+use Rattle.tcl_core.specs.Trees.What.{Out, In, Done, Back, Unfound}
 use Rattle.tcl_tree.specs.Own.{Own}
 use Rattle.tcl_recorder.specs.Boundary.{at_passing, back_seen, boundary, done_seen, in_seen, out_seen, passing}
 use Rattle.tcl_recorder.specs.Laws.{IsNoCrossing}
@@ -55,3 +56,11 @@ module _ (r : RecordView) (p : Place) (h : Height) where
 
   pub back_some : (a : Answer) (q : Path) → passing r.watched p h ≡ Some q → longer r (event q (back_seen h a q)) ≡ crossed r (event p (Back h a))
   back_some a q e = passed r _ (back_seen h a) q (boundary_back r.watched p h a [] ∙ ap (λ o. at_passing o (back_seen h a) []) e)
+
+-- an entry that found nobody crosses the boundary of the whole tree alone
+pub unseen_below : (r : RecordView) (t : Path) (i : Entry) (x : Completion) → (length r.watched == 0) ≡ false → r ≡ crossed r (event [] (Unfound t i x))
+unseen_below r t i x e = by r.watched e
+  where
+    by : (w : Path) → (length w == 0) ≡ false → record { watched = w; crossings = r.crossings } ≡ crossed (record { watched = w; crossings = r.crossings }) (event [] (Unfound t i x))
+    by [] f = let clash : true ≡ false = f in absurd cc
+    by (name ∷ c) f = after_none (record { watched = name ∷ c; crossings = r.crossings })

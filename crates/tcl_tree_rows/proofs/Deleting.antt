@@ -1,5 +1,5 @@
 -- A deletion while an evaluation is in progress.
-use Rattle.std.specs.Prelude.{◌≡◌, ℕ, Result, Ok, Err, OnOk, OnErr, Unit}
+use Rattle.std.specs.Prelude.{◌≡◌, ℕ, Result, Ok, Err, OnOk, OnErr}
 use Rattle.tcl_interpreter.specs.Paths.{Path}
 use Rattle.tcl_interpreter.specs.declared.refusal.TreeError.{TreeError}
 use Rattle.tcl_tree.specs.Gone.{held_of}

@@ -1,5 +1,5 @@
 //! Calls on a tree of interpreters by path.
-use crate::answers::{Answer, done, no_call, refused};
+use crate::answers::{Answer, done, given, no_call, refused};
 use crate::looks::{of_name, of_path};
 use crate::places::{alias_up, at_place, nothing};
 use crate::words::{number_of, place_of, words_of};

@@ -325,10 +325,10 @@ evaluation::eval_script-eval_commands-ended-requires g t c κs within =
     (search rules, (search rules, (p, c.in_default.ensures.keys p ∙ names, begun_at c.args.tree.now c.nest_at.new.self c.args.place p names free.1)))
 
 pub evaluation::eval_script-unnest-requires : goal.evaluation::eval_script-unnest-requires
-evaluation::eval_script-unnest-requires g t c = (
-  (c.requires.0, (1, nested_holds c.args.tree.now c.nest_at.new.self c.eval_commands-ended.new.tree c.args.place c.requires.0 c.requires.1 c.in_default.ensures.keys c.in_default.ensures.deeper (c.in_default.ensures.nested c.requires.0 c.requires.1).1 c.eval_commands-ended.ensures.keeps.steady)),
-  nested_innermost c.args.tree.now c.nest_at.new.self c.eval_commands-ended.new.tree c.args.place c.requires.0 c.requires.1 c.in_default.ensures.keys c.in_default.ensures.deeper (c.in_default.ensures.nested c.requires.0 c.requires.1).1 c.eval_commands-ended.ensures.keeps.steady,
-)
+evaluation::eval_script-unnest-requires g t c = record {
+  holds = (c.requires.0, 1, nested_holds c.args.tree.now c.nest_at.new.self c.eval_commands-ended.new.tree c.args.place c.requires.0 c.requires.1 c.in_default.ensures.keys c.in_default.ensures.deeper (c.in_default.ensures.nested c.requires.0 c.requires.1).1 c.eval_commands-ended.ensures.keeps.steady);
+  innermost = nested_innermost c.args.tree.now c.nest_at.new.self c.eval_commands-ended.new.tree c.args.place c.requires.0 c.requires.1 c.in_default.ensures.keys c.in_default.ensures.deeper (c.in_default.ensures.nested c.requires.0 c.requires.1).1 c.eval_commands-ended.ensures.keeps.steady;
+}
 
 pub evaluation::eval_script-returns-clause-runs : goal.evaluation::eval_script-returns-clause-runs
 evaluation::eval_script-returns-clause-runs g t c =
@@ -676,10 +676,10 @@ crossing::call_target-call-ended-requires g t c κs within =
     (search rules, (search rules, (p, c.in_default.ensures.keys p ∙ names, begun_at c.args.tree.now c.nest_at.new.self c.args.place p names free.1)))
 
 pub crossing::call_target-unnest-requires : goal.crossing::call_target-unnest-requires
-crossing::call_target-unnest-requires g t c = (
-  (c.requires.0, (1, nested_holds c.args.tree.now c.nest_at.new.self c.call-ended.new.tree c.args.place c.requires.0 c.requires.1 c.in_default.ensures.keys c.in_default.ensures.deeper (c.in_default.ensures.nested c.requires.0 c.requires.1).1 c.call-ended.ensures.keeps.steady)),
-  nested_innermost c.args.tree.now c.nest_at.new.self c.call-ended.new.tree c.args.place c.requires.0 c.requires.1 c.in_default.ensures.keys c.in_default.ensures.deeper (c.in_default.ensures.nested c.requires.0 c.requires.1).1 c.call-ended.ensures.keeps.steady,
-)
+crossing::call_target-unnest-requires g t c = record {
+  holds = (c.requires.0, 1, nested_holds c.args.tree.now c.nest_at.new.self c.call-ended.new.tree c.args.place c.requires.0 c.requires.1 c.in_default.ensures.keys c.in_default.ensures.deeper (c.in_default.ensures.nested c.requires.0 c.requires.1).1 c.call-ended.ensures.keeps.steady);
+  innermost = nested_innermost c.args.tree.now c.nest_at.new.self c.call-ended.new.tree c.args.place c.requires.0 c.requires.1 c.in_default.ensures.keys c.in_default.ensures.deeper (c.in_default.ensures.nested c.requires.0 c.requires.1).1 c.call-ended.ensures.keeps.steady;
+}
 
 pub crossing::call_target-returns-clause-runs : goal.crossing::call_target-returns-clause-runs
 crossing::call_target-returns-clause-runs g t c =
@@ -777,10 +777,10 @@ crossing::invoke-returns-in-Err-clause-runs g t c = breaks c.too_deep.result (λ
     let no = c.in-Err.ensures.refused q at.names in unhidden_refused style c.args.is_global c.args.words.now c.in-Err.levels no.0 no.1 h) (λ q style at. stopped) c.too_deep.ensures
 
 pub crossing::invoke-unnest-requires : goal.crossing::invoke-unnest-requires
-crossing::invoke-unnest-requires g t c = (
-  (c.requires.0, (1, nested_holds c.args.tree.now c.nest_at.new.self c.invoke_at-ended.new.tree c.args.place c.requires.0 c.requires.1 c.in_default.ensures.keys c.in_default.ensures.deeper (c.in_default.ensures.nested c.requires.0 c.requires.1).1 c.invoke_at-ended.ensures.keeps.steady)),
-  nested_innermost c.args.tree.now c.nest_at.new.self c.invoke_at-ended.new.tree c.args.place c.requires.0 c.requires.1 c.in_default.ensures.keys c.in_default.ensures.deeper (c.in_default.ensures.nested c.requires.0 c.requires.1).1 c.invoke_at-ended.ensures.keeps.steady,
-)
+crossing::invoke-unnest-requires g t c = record {
+  holds = (c.requires.0, 1, nested_holds c.args.tree.now c.nest_at.new.self c.invoke_at-ended.new.tree c.args.place c.requires.0 c.requires.1 c.in_default.ensures.keys c.in_default.ensures.deeper (c.in_default.ensures.nested c.requires.0 c.requires.1).1 c.invoke_at-ended.ensures.keeps.steady);
+  innermost = nested_innermost c.args.tree.now c.nest_at.new.self c.invoke_at-ended.new.tree c.args.place c.requires.0 c.requires.1 c.in_default.ensures.keys c.in_default.ensures.deeper (c.in_default.ensures.nested c.requires.0 c.requires.1).1 c.invoke_at-ended.ensures.keeps.steady;
+}
 
 pub crossing::invoke-returns-clause-runs : goal.crossing::invoke-returns-clause-runs
 crossing::invoke-returns-clause-runs g t c =
@@ -2502,7 +2502,7 @@ crossing::call_past_top-returns-in-Completed-clause-runs g t c =
     (subst (SaysOn (ways g.O.Outside.goes g.O.Outside.loses) c.args.tree.now c.notify.new.self c.args.caller (Some c.args.up) (whole_entry c.args.entry) c.wait.new.tree c.wait.new.outside) c.in-Completed.is c.in_ok-value.ensures.runs)
 
 pub crossing::call_there-return_to_caller-requires : goal.crossing::call_there-return_to_caller-requires
-crossing::call_there-return_to_caller-requires g t c = (c.requires.running.0, (depth_of (tree_of c.args.tree.now c.requires.running.0), steady_holds c.args.tree.now c.serve_entry-ended.new.tree c.args.caller c.requires.running.0 c.serve_entry-ended.ensures.keeps.steady c.requires.running.1 c.requires.running.2))
+crossing::call_there-return_to_caller-requires g t c = (c.requires.running.0, depth_of (tree_of c.args.tree.now c.requires.running.0), steady_holds c.args.tree.now c.serve_entry-ended.new.tree c.args.caller c.requires.running.0 c.serve_entry-ended.ensures.keeps.steady c.requires.running.1 c.requires.running.2)
 
 pub crossing::call_there-returns-in_err-notify-clause-runs : goal.crossing::call_there-returns-in_err-notify-clause-runs
 crossing::call_there-returns-in_err-notify-clause-runs g t c =
@@ -2563,7 +2563,7 @@ pub crossing::invoke-returns-in-Err-clause-here : goal.crossing::invoke-returns-
 crossing::invoke-returns-in-Err-clause-here g t c = Completes-all c.too_deep.result (IsHere c.args.tree.now c.nest_at.new.self c.args.place) (level_here c.args.tree.now c.nest_at.new.self c.args.place (same_level c.args.tree.now c.nest_at.new.self c.in-Err.ensures.marks c.in-Err.ensures.keys c.in-Err.ensures.held (c.in-Err.ensures.refused c.requires.0 c.requires.1).1))
 
 pub commands::call_procedure-leave_frame-requires : goal.commands::call_procedure-leave_frame-requires
-commands::call_procedure-leave_frame-requires g t c = (c.requires.0, (depth_of (tree_of c.args.tree.now c.requires.0), steady_holds c.args.tree.now c.eval_value-ended.new.tree c.args.place c.requires.0 (steady-trans c.args.tree.now c.enter_frame.new.tree c.eval_value-ended.new.tree (level_steady c.args.tree.now c.enter_frame.new.tree c.enter_frame.ensures.level) c.eval_value-ended.ensures.keeps.steady) c.requires.1 c.requires.2))
+commands::call_procedure-leave_frame-requires g t c = (c.requires.0, depth_of (tree_of c.args.tree.now c.requires.0), steady_holds c.args.tree.now c.eval_value-ended.new.tree c.args.place c.requires.0 (steady-trans c.args.tree.now c.enter_frame.new.tree c.eval_value-ended.new.tree (level_steady c.args.tree.now c.enter_frame.new.tree c.enter_frame.ensures.level) c.eval_value-ended.ensures.keeps.steady) c.requires.1 c.requires.2)
 
 pub commands::call_procedure-returns-clause-keeps : goal.commands::call_procedure-returns-clause-keeps
 commands::call_procedure-returns-clause-keeps g t c = keeps-trans (level_keeps _ c.enter_frame.ensures.level) (keeps-trans c.eval_value-ended.ensures.keeps (level_keeps _ c.leave_frame.ensures.level))
@@ -2574,7 +2574,7 @@ commands::call_procedure-returns-clause-here g t c =
     (here_level c.eval_value-ended.result c.args.tree.now c.eval_value-ended.new.tree c.leave_frame.new.tree c.args.place (here_then c.eval_value-ended.result c.args.tree.now c.enter_frame.new.tree c.eval_value-ended.new.tree c.args.place (level_here c.args.tree.now c.enter_frame.new.tree c.args.place c.enter_frame.ensures.level) c.eval_value-ended.ensures.here) c.leave_frame.ensures.level)
 
 pub loops::uplevel-bring_back-requires : goal.loops::uplevel-bring_back-requires
-loops::uplevel-bring_back-requires g t c = (c.requires.0, (depth_of (tree_of c.args.tree.now c.requires.0), steady_holds c.args.tree.now c.eval_value-ended.new.tree c.args.place c.requires.0 (steady-trans c.args.tree.now c.set_aside.new.tree c.eval_value-ended.new.tree (level_steady c.args.tree.now c.set_aside.new.tree c.set_aside.ensures.level) c.eval_value-ended.ensures.keeps.steady) c.requires.1 c.requires.2))
+loops::uplevel-bring_back-requires g t c = (c.requires.0, depth_of (tree_of c.args.tree.now c.requires.0), steady_holds c.args.tree.now c.eval_value-ended.new.tree c.args.place c.requires.0 (steady-trans c.args.tree.now c.set_aside.new.tree c.eval_value-ended.new.tree (level_steady c.args.tree.now c.set_aside.new.tree c.set_aside.ensures.level) c.eval_value-ended.ensures.keeps.steady) c.requires.1 c.requires.2)
 
 pub loops::uplevel-returns-clause-keeps : goal.loops::uplevel-returns-clause-keeps
 loops::uplevel-returns-clause-keeps g t c = keeps-trans (level_keeps _ c.set_aside.ensures.level) (keeps-trans c.eval_value-ended.ensures.keeps (level_keeps _ c.bring_back.ensures.level))
@@ -2583,7 +2583,7 @@ pub loops::uplevel-returns-clause-here : goal.loops::uplevel-returns-clause-here
 loops::uplevel-returns-clause-here g t c = here_level c.eval_value-ended.result c.args.tree.now c.eval_value-ended.new.tree c.bring_back.new.tree c.args.place (here_then c.eval_value-ended.result c.args.tree.now c.set_aside.new.tree c.eval_value-ended.new.tree c.args.place (level_here c.args.tree.now c.set_aside.new.tree c.args.place c.set_aside.ensures.level) c.eval_value-ended.ensures.here) c.bring_back.ensures.level
 
 pub crossing::invoke_at-bring_back-requires : goal.crossing::invoke_at-bring_back-requires
-crossing::invoke_at-bring_back-requires g t c = (c.requires.0, (depth_of (tree_of c.args.tree.now c.requires.0), steady_holds c.args.tree.now c.call_hidden-ended.new.tree c.args.place c.requires.0 (steady-trans c.args.tree.now c.set_aside.new.tree c.call_hidden-ended.new.tree (level_steady c.args.tree.now c.set_aside.new.tree c.set_aside.ensures.level) c.call_hidden-ended.ensures.keeps.steady) c.requires.1 c.requires.2))
+crossing::invoke_at-bring_back-requires g t c = (c.requires.0, depth_of (tree_of c.args.tree.now c.requires.0), steady_holds c.args.tree.now c.call_hidden-ended.new.tree c.args.place c.requires.0 (steady-trans c.args.tree.now c.set_aside.new.tree c.call_hidden-ended.new.tree (level_steady c.args.tree.now c.set_aside.new.tree c.set_aside.ensures.level) c.call_hidden-ended.ensures.keeps.steady) c.requires.1 c.requires.2)
 
 pub crossing::invoke_at-returns-clause-keeps : goal.crossing::invoke_at-returns-clause-keeps
 crossing::invoke_at-returns-clause-keeps g t c = keeps-trans (level_keeps _ c.set_aside.ensures.level) (keeps-trans c.call_hidden-ended.ensures.keeps (level_keeps _ c.bring_back.ensures.level))
@@ -3380,22 +3380,22 @@ waiting::hand_in-returns-in_err-miss_entry-in-None-clause-quits g t c =
     let p = err_from_is_err_and c.from_residual.result c.from_residual.ensures.1 in
     Awaited.memory_quits c.from_residual.result p.0 p.1 p.2
 
-pub waiting::hand_in-returns-in_ok-miss_entry-in-None-clause-runs : goal.waiting::hand_in-returns-in_ok-miss_entry-in-None-clause-runs
-waiting::hand_in-returns-in_ok-miss_entry-in-None-clause-runs g t c =
+pub waiting::hand_in-returns-clause-runs : goal.waiting::hand_in-returns-clause-runs
+waiting::hand_in-returns-clause-runs g t c =
     Awaited.handed_at (ways g.O.Outside.goes g.O.Outside.loses) c.args.tree.now c.args.tree.now c.args.outside.now c.miss_entry.new.outside c.args.place c.args.up (whole_entry c.args.entry.now) c.as_slice-path.result.now c.args.target.items (whole_entry c.args.inner) (Ok tt) c.as_slice-path.ensures.value
     (Awaited.handed_to_nobody (ways g.O.Outside.goes g.O.Outside.loses) c.args.tree.now c.args.outside.now c.args.place c.args.up (whole_entry c.args.entry.now) c.as_slice-path.result.now (whole_entry c.args.inner) c.miss_entry.new.outside c.in-None.ensures.missing c.in_ok-miss_entry-in-None.ensures.misses)
 
 pub waiting::hand_in-miss_entry-requires : goal.waiting::hand_in-miss_entry-requires
-waiting::hand_in-miss_entry-requires g t c = (c.requires.handed, c.in-None.ensures.missing)
+waiting::hand_in-miss_entry-requires g t c = record { handed = c.requires.handed; missing = c.in-None.ensures.missing }
 
 pub waiting::wait-turns-init : goal.waiting::wait-turns-init
 waiting::wait-turns-init g t c = record { leads = λ p style at k V w r t. t; keeps = keeps-refl _ _ }
 
 pub waiting::wait-next-coming-requires : goal.waiting::wait-next-coming-requires
-waiting::wait-next-coming-requires g t c = (c.requires.asked, (c.requires.running.0, ((depth_of (tree_of c.args.tree.now c.requires.running.0)), (steady_holds c.args.tree.now c.turns.tree c.args.place c.requires.running.0 c.turns.invariant.keeps.steady c.requires.running.1 c.requires.running.2))))
+waiting::wait-next-coming-requires g t c = record { asked = c.requires.asked; held = (c.requires.running.0, depth_of (tree_of c.args.tree.now c.requires.running.0), steady_holds c.args.tree.now c.turns.tree c.args.place c.requires.running.0 c.turns.invariant.keeps.steady c.requires.running.1 c.requires.running.2) }
 
 pub waiting::wait-told_next-requires : goal.waiting::wait-told_next-requires
-waiting::wait-told_next-requires g t c = (c.requires.running.0, ((depth_of (tree_of c.args.tree.now c.requires.running.0)), (steady_holds c.args.tree.now c.turns.tree c.args.place c.requires.running.0 c.turns.invariant.keeps.steady c.requires.running.1 c.requires.running.2)))
+waiting::wait-told_next-requires g t c = (c.requires.running.0, depth_of (tree_of c.args.tree.now c.requires.running.0), steady_holds c.args.tree.now c.turns.tree c.args.place c.requires.running.0 c.turns.invariant.keeps.steady c.requires.running.1 c.requires.running.2)
 
 pub waiting::wait-returns-in_err-target-clause-runs : goal.waiting::wait-returns-in_err-target-clause-runs
 waiting::wait-returns-in_err-target-clause-runs g t c =
@@ -3503,8 +3503,8 @@ waiting::wait-returns-in_err-hand_in-in-Entry-clause-here g t c =
 pub waiting::hand_in-returns-in_err-miss_entry-in-None-clause-keeps : goal.waiting::hand_in-returns-in_err-miss_entry-in-None-clause-keeps
 waiting::hand_in-returns-in_err-miss_entry-in-None-clause-keeps g t c = told_keeps c.miss_entry.ensures.left
 
-pub waiting::hand_in-returns-in_ok-miss_entry-in-None-clause-keeps : goal.waiting::hand_in-returns-in_ok-miss_entry-in-None-clause-keeps
-waiting::hand_in-returns-in_ok-miss_entry-in-None-clause-keeps g t c = told_keeps c.miss_entry.ensures.left
+pub waiting::hand_in-returns-clause-keeps : goal.waiting::hand_in-returns-clause-keeps
+waiting::hand_in-returns-clause-keeps g t c = told_keeps c.miss_entry.ensures.left
 
 pub crossing::call_there-returns-in_err-notify-clause-keeps : goal.crossing::call_there-returns-in_err-notify-clause-keeps
 crossing::call_there-returns-in_err-notify-clause-keeps g t c = told_keeps c.notify.ensures.left
@@ -3520,3 +3520,15 @@ crossing::call_alias-returns-in-Missing-clause-keeps g t c = told_keeps c.miss_a
 
 pub crossing::ask_below-returns-in-Missing-clause-keeps : goal.crossing::ask_below-returns-in-Missing-clause-keeps
 crossing::ask_below-returns-in-Missing-clause-keeps g t c = told_keeps c.find_nobody.ensures.left
+
+pub waiting::wait-turns-smaller : goal.waiting::wait-turns-smaller
+waiting::wait-turns-smaller g t c =
+    let fewer : g.O.Outside.entries_left c.next-coming.new.self < g.O.Outside.entries_left c.turns.outside = (subst (λ (x : Result Turn Interruption). OnEntry x (g.O.Outside.entries_left c.next-coming.new.self < g.O.Outside.entries_left c.turns.outside)) (c.in_ok-target.was ∙ ap Ok c.in-Entry.is) (Awaited.on_entry_told (gone (depth_of (tree_of c.args.tree.now c.requires.running.0)) (tree_of c.turns.tree) c.requires.running.0) c.next-coming.result c.told_next.result (g.O.Outside.entries_left c.next-coming.new.self < g.O.Outside.entries_left c.turns.outside) (c.told_next.ensures c.requires.running.0 (depth_of (tree_of c.args.tree.now c.requires.running.0)) (steady_holds c.args.tree.now c.turns.tree c.args.place c.requires.running.0 c.turns.invariant.keeps.steady c.requires.running.1 c.requires.running.2)) c.next-coming.ensures.fewer)) in
+    let left : g.O.Outside.entries_left c.hand_in.new.outside ≤ g.O.Outside.entries_left c.next-coming.new.self = c.hand_in.ensures.keeps.left in
+    omega arith
+
+pub expressions::expression-returns-in_err-value-in-Wants-clause-keeps : goal.expressions::expression-returns-in_err-value-in-Wants-clause-keeps
+expressions::expression-returns-in_err-value-in-Wants-clause-keeps g t c = keeps-trans c.parts.invariant.keeps c.eval_word.ensures.keeps
+
+pub expressions::expression-returns-in_err-supply-in-Wants-clause-keeps : goal.expressions::expression-returns-in_err-supply-in-Wants-clause-keeps
+expressions::expression-returns-in_err-supply-in-Wants-clause-keeps g t c = keeps-trans c.parts.invariant.keeps c.eval_word.ensures.keeps
