@@ -7,8 +7,8 @@ use std::alloc::{AllocError, Global};
 use tcl_run::entry::{Entry, OwnEntry};
 use tcl_text::text::Text;
 
-/// An entry as it is handed in for the interpreter at a path: an alias that it sets has the shortest
-/// way to its target, which doesn't go up and come down again by the same names.
+/// An entry as it is handed in for the interpreter at a path: an alias that it sets has the
+/// shortest way to its target, which doesn't go up and come down again by the same names.
 ///
 /// # Errors
 /// Want of memory.
