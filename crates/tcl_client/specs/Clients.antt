@@ -1,5 +1,5 @@
 -- How the client serves the calls that scripts make of it: which lines are read and written.
-use Rattle.std.specs.Prelude.{◌≡◌, ◌⊎◌, ℕ, ℤ, zero, ◌+◌, ◌-◌, pos, Bool, true, false, List, []}
+use Rattle.std.specs.Prelude.{◌≡◌, ℕ, ℤ, zero, ◌+◌, ◌-◌, pos, Bool, true, false, List, []}
 use Rattle.std.specs.Prelude.{◌∷◌, ◌++◌, length, take, Option, Some, None, Result, Ok, Err, IsSome}
 use Rattle.tcl_client.specs.Entering.{IsEntry}
 use Rattle.tcl_client.specs.Opened.{IsOpen, RefusesOpen, last_of}

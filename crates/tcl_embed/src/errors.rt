@@ -70,10 +70,12 @@ mod tests {
     use super::*;
     use std::alloc::Global;
     use std::test::Fail;
-    use tcl_eval::running::OpenEnd;
+    use tcl_host::memory::MemoryHost;
     use tcl_host::reply::HostRefusal;
+    use tcl_replay::watching::eval_watched;
     use tcl_text::list::ListFault;
     use tcl_text::text::Text;
+    use tcl_tree::tree::Tree;
     use tcl_value::dict_fault::DictFault;
 
     /// An error is printed so.
@@ -83,6 +85,21 @@ mod tests {
             return Ok(());
         }
         Err(Fail::new(format_args!("found {found}, of {wanted}")))
+    }
+
+    /// The error of a watched evaluation that deletes the watched interpreter.
+    fn watched_deletion(alloc: Global) -> Result<EmbedError, Fail> {
+        let mut tree = Tree::new(alloc)?;
+        let name = Text::new(alloc, "c")?;
+        if tree.create(alloc, &[], &name, true).is_err() {
+            return Err(Fail::new(format_args!("there is no child")));
+        }
+        let host = MemoryHost::new(alloc)?;
+        let script = "interp delete c";
+        match eval_watched(&mut tree, alloc, host, &[], script, 100, &[name]).1 {
+            Err(error) => Ok(EmbedError::from(error)),
+            Ok(_) => Err(Fail::new(format_args!("it was not deleted"))),
+        }
     }
 
     #[test]
@@ -103,9 +120,8 @@ mod tests {
             EmbedError::from(Unwatched::Refused(Refused::Broken)),
             broken,
         )?;
-        let deleted = OpenUnwatched::Deleted(OpenEnd::CutOff);
-        let told = "411: the watched interpreter was deleted";
-        see(alloc, EmbedError::from(deleted), told)?;
+        let deleted = "411: the watched interpreter was deleted";
+        see(alloc, watched_deletion(alloc)?, deleted)?;
         let waits = "412: the interpreter waits for an answer";
         see(alloc, EmbedError::from(Unplayed::Waits), waits)
     }

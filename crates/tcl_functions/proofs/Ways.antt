@@ -16,6 +16,7 @@ use Rattle.tcl_flow.specs.View.{completion_of}
 use Rattle.tcl_flow.specs.declared.completion.Completion as code
 use Rattle.tcl_functions.specs.Actions.{ActionView}
 use Rattle.tcl_functions.specs.Actions.ActionView.{Completes, Enters as EntersFirst, Exits}
+use Rattle.tcl_functions.specs.Handing.{handed}
 use Rattle.tcl_functions.specs.Replies.{Sees, seen}
 use Rattle.tcl_functions.specs.Serving.{Begins, Closes, ClosesByExit, ComesBack, EndsBy, EndsCall, EndsSo, GoesOut, HandsIn, HasNoCall, HearsEnd, HearsHost, Hosting, IsSpent, Keeps, Reopens, Serves, Serving, TakesReply, going, past, too_many_entries}
 use Rattle.tcl_functions.specs.Serving.EndsCall.{served, exited}
@@ -168,16 +169,18 @@ module _ {F H : Type 0} (serves : Serving F) (o z : WithFunctions F H) where
   pub ends : (below : List Call) (call : Call) (d : ActionView) (e : Interruption) → o.calls.items ≡ below ++ call ∷ [] → serves o.functions call d z.functions → Closes o below z → Interrupts e (EndsSo d) → Serves serves o z (Err e)
   ends below call d e stood does closes says = Interrupts-more e (EndsSo d) (λ r. EndsCall serves o r z) (λ r g. served below call d stood does (ends_by o.entries d r g) closes) says
 
-  module _ (u : WithFunctions F H) (below : List Call) (call : Call) (d : ActionView) (target : List (List ℕ)) (entry : Entry) (is : d ≡ EntersFirst target entry) (stood : o.calls.items ≡ below ++ call ∷ []) (does : serves o.functions call d u.functions) (closes : Closes o below u) where
-    handed : serves o.functions call (EntersFirst target entry) u.functions
-    handed = subst (λ y. serves o.functions call y u.functions) is does
+  module _ (u : WithFunctions F H) (below : List Call) (call : Call) (d : ActionView) (target : List (List ℕ)) (asked : Entry) (is : d ≡ EntersFirst target asked) (stood : o.calls.items ≡ below ++ call ∷ []) (does : serves o.functions call d u.functions) (closes : Closes o below u) where
+    asked_so : serves o.functions call (EntersFirst target asked) u.functions
+    asked_so = subst (λ y. serves o.functions call y u.functions) is does
 
-    pub enters : Reopens u call z → HandsIn serves o target entry z
-    enters w = record {
+    pub enters : (entry : Entry) → entry ≡ handed target asked → Reopens u call z → HandsIn serves o target entry z
+    enters entry same w = record {
       below = below;
       call = call;
+      asked = asked;
       stood = stood;
-      does = subst (λ f. serves o.functions call (EntersFirst target entry) f) (sym w.functions) handed;
+      does = subst (λ f. serves o.functions call (EntersFirst target asked) f) (sym w.functions) asked_so;
+      handed_so = same;
       stands = w.stands ∙ ap (λ cs. cs ++ call ∷ []) closes.calls;
       left = sym closes.keeps.entries ∙ w.left;
       host = w.host ∙ closes.keeps.host;
@@ -185,4 +188,4 @@ module _ {F H : Type 0} (serves : Serving F) (o z : WithFunctions F H) where
     }
 
     pub spent : (e : Interruption) → Interrupts e (IsSpent u z) → Serves serves o z (Err e)
-    spent e says = Interrupts-more e (IsSpent u z) (λ r. EndsCall serves o r z) (λ r g. served below call (EntersFirst target entry) stood (subst (λ w. serves o.functions call (EntersFirst target entry) w.functions) (sym g.same) handed) (sym closes.keeps.entries ∙ g.spent, g.says) (subst (λ w. Closes o below w) (sym g.same) closes)) says
+    spent e says = Interrupts-more e (IsSpent u z) (λ r. EndsCall serves o r z) (λ r g. served below call (EntersFirst target asked) stood (subst (λ w. serves o.functions call (EntersFirst target asked) w.functions) (sym g.same) asked_so) (sym closes.keeps.entries ∙ g.spent, g.says) (subst (λ w. Closes o below w) (sym g.same) closes)) says

@@ -18,6 +18,7 @@ use Rattle.tcl_flow.specs.declared.completion.Completion as code
 use Rattle.tcl_functions.specs.Actions.{ActionView}
 use Rattle.tcl_functions.specs.Actions.ActionView.{Completes, Enters, Exits}
 use Rattle.tcl_functions.specs.Calls.{words_of}
+use Rattle.tcl_functions.specs.Handing.{handed}
 use Rattle.tcl_functions.specs.Replies.{seen}
 use Rattle.tcl_functions.specs.declared.call.Call.{Call}
 use Rattle.tcl_functions.specs.declared.serving.WithFunctions.{WithFunctions}
@@ -63,13 +64,16 @@ pub record Begins {F H : Type 0} (o : WithFunctions F H) (p : Path) (i : Entry)
   pub functions : z.functions ≡ o.functions
   pub keeps : Keeps o z
 
--- The last open call hands in an entry, which is one less that may be handed in.
+-- The last open call hands in an entry, which is one less that may be handed in. It is what the
+-- function asks for, where an alias that is set has the shortest way.
 pub record HandsIn {F H : Type 0} (serves : Serving F) (o : WithFunctions F H) (t : Path)
     (i : Entry) (z : WithFunctions F H) : Type 0 where
   pub below : List Call
   pub call : Call
+  pub asked : Entry
   pub stood : o.calls.items ≡ below ++ call ∷ []
-  pub does : serves o.functions call (Enters t i) z.functions
+  pub does : serves o.functions call (Enters t asked) z.functions
+  pub handed_so : i ≡ handed t asked
   pub stands : z.calls.items ≡ below ++ call ∷ []
   pub left : o.entries ≡ z.entries + 1
   pub host : z.host ≡ o.host
@@ -118,6 +122,10 @@ pub record Closes {F H : Type 0} (o : WithFunctions F H) (below : List Call)
   pub calls : z.calls.items ≡ below
   pub exits : z.exits ≡ o.exits
   pub keeps : Keeps o z
+
+-- what a function does hands in this entry for the interpreter at t
+abbrev pub Hands : ActionView → Path → Entry → Type 0
+Hands does t i = (asked : Entry) × (does ≡ Enters t asked) × (i ≡ handed t asked)
 
 -- how a call ends by what its function does, where that ends it
 abbrev pub EndsSo : ActionView → Reply → Type 0

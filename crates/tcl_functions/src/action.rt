@@ -28,7 +28,8 @@ pub enum Action {
     Enter {
         /// The path of the interpreter, from the root of the tree downward.
         target: Vec<Text>,
-        /// What is asked of it.
+        /// What is asked of it. An alias that is set gets the shortest way to its target: where its
+        /// way goes up and comes down again by the same names, these are left out.
         entry: Entry,
     },
     /// It ends the whole run with this status.

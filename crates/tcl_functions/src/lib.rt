@@ -5,5 +5,6 @@ pub mod action;
 pub mod aliases;
 pub mod call;
 pub mod functions;
+mod handing;
 mod replies;
 pub mod serving;

@@ -3,10 +3,10 @@ ghost use Rattle.std.specs.Prelude.{◌≡◌, ◌<◌, ◌≤◌, [], false, tr
 ghost use Rattle.std.specs.Prelude.{OnOk};
 ghost use Rattle.tcl_core.specs.Paths.{Path};
 ghost use Rattle.tcl_functions.specs.Actions.{action_of};
-ghost use Rattle.tcl_functions.specs.Actions.ActionView.{Enters};
 ghost use Rattle.tcl_functions.specs.Replies.{seen};
-ghost use Rattle.tcl_functions.specs.Serving.{Begins, ClosesByExit, EndsSo, HearsEnd, IsSpent};
-ghost use Rattle.tcl_functions.specs.Serving.{Reopens, Serves, TakesReply, going, most_entries};
+ghost use Rattle.tcl_functions.specs.Serving.{Begins, ClosesByExit, EndsSo, Hands, HearsEnd};
+ghost use Rattle.tcl_functions.specs.Serving.{IsSpent, Reopens, Serves, TakesReply, going};
+ghost use Rattle.tcl_functions.specs.Serving.{most_entries};
 ghost use Rattle.tcl_flow.specs.View.{completion_of};
 ghost use Rattle.tcl_run.specs.Ends.{IfEnded, Interrupts};
 ghost use Rattle.tcl_run.specs.Entering.{whole_entry};
@@ -16,6 +16,7 @@ ghost use Rattle.tcl_tree.specs.TreeOf.{Names};
 use crate::action::Action;
 use crate::call::{Call, words_of};
 use crate::functions::Functions;
+use crate::handing::handed;
 use crate::replies::reply_of;
 use std::alloc::{AllocError, Global};
 use tcl_flow::completion::Completion;
@@ -216,17 +217,20 @@ impl<F: Functions, H: Host> WithFunctions<F, H> {
     }
 }
 
-/// The entry that a function asks for, and for which interpreter.
+/// The entry that a function asks for, as it is handed in, and for which interpreter.
 ///
 /// # Errors
-/// How it ends its call, where it does.
+/// How it ends its call, where it does; want of memory.
 fn entry_of(alloc: Global, action: Action) -> Result<(Vec<Text>, Entry), Interruption>
-    ensures { MatchResult result (λ x. action_of action ≡ Enters x.0.items (whole_entry x.1))
+    ensures { MatchResult result (λ x. Hands (action_of action) x.0.items (whole_entry x.1))
         (λ e. Interrupts e (EndsSo (action_of action))) }
 {
     match action {
         Action::Complete(completion) => Err(Interruption::of_completion(alloc, completion)),
-        Action::Enter { target, entry } => Ok((target, entry)),
+        Action::Enter { target, entry } => {
+            let entry = handed(alloc, entry, target.as_slice())?;
+            Ok((target, entry))
+        }
         Action::Exit(status) => Err(Interruption::Exited(status)),
     }
 }

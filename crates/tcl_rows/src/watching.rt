@@ -8,7 +8,7 @@ use tcl_host::memory::MemoryHost;
 use tcl_recorder::crossing::Crossing;
 use tcl_recorder::record::Record;
 use tcl_replay::saving::{self, Saved};
-use tcl_replay::watching::{Unwatched, eval_watched};
+use tcl_replay::watching::{Deletion, Unwatched, eval_watched};
 use tcl_text::text::Text;
 use tcl_tree::tree::Tree;
 
@@ -32,25 +32,26 @@ fn path_to(alloc: Global, name: &str) -> Result<Vec<Text>, AllocError> {
     Ok(path)
 }
 
-/// Why there is no record of an evaluation.
-fn unwatched(alloc: Global, why: &Unwatched) -> Result<String, AllocError> {
-    match why {
-        Unwatched::Deleted(end) => {
-            let end = ending::end(alloc, end)?;
-            format!(in alloc; "Deleted: {end}", end = end.as_str())
-        }
-        Unwatched::Refused(refused) => ending::refusal(alloc, *refused),
-    }
+/// How an evaluation ended in which the watched interpreter was deleted, and what crossed the
+/// boundary until then.
+fn show_deletion(alloc: Global, deletion: Deletion) -> Result<(String, Vec<Crossing>), AllocError> {
+    let Deletion { end, until } = deletion;
+    let end = ending::end(alloc, &end)?;
+    let told = format!(in alloc; "Deleted: {end}", end = end.as_str())?;
+    Ok((told, until.into_crossings()))
 }
 
-/// How an evaluation ended, or why there is no record of it, and what crossed the boundary.
+/// How an evaluation ended, or what refused it, and what crossed the boundary.
 fn show(
     alloc: Global,
     given: Result<(End, Record), Unwatched>,
 ) -> Result<(String, Vec<Crossing>), AllocError> {
     match given {
         Ok((end, record)) => Ok((ending::end(alloc, &end)?, record.into_crossings())),
-        Err(why) => Ok((unwatched(alloc, &why)?, Vec::new(alloc))),
+        Err(Unwatched::Deleted(deletion)) => show_deletion(alloc, deletion),
+        Err(Unwatched::Refused(refused)) => {
+            Ok((ending::refusal(alloc, refused)?, Vec::new(alloc)))
+        }
     }
 }
 

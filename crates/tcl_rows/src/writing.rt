@@ -4,7 +4,7 @@
 //! its script, `call` and its words, `expose` and its names, or `own`; of a call it comes behind
 //! how many levels it leads above the watched interpreter, a request of the host behind `host`. A
 //! reply is the text of an ordinary completion, a code and a text, `stop`, `exit` and a status, or
-//! `ended`.
+//! `ended`. Where nobody is there who could answer a call, `nobody` comes back.
 use std::alloc::{AllocError, Global};
 use tcl_flow::completion::Completion;
 use tcl_host::reply::HostReply;
@@ -87,6 +87,7 @@ fn answer(alloc: Global, answer: &Answer) -> Result<String, AllocError> {
         Answer::Replied(replied) => reply(alloc, replied),
         Answer::Heard(HostReply::Done) => String::from_str(alloc, "host done"),
         Answer::Heard(_) => String::from_str(alloc, "host"),
+        Answer::Nobody => String::from_str(alloc, "nobody"),
     }
 }
 

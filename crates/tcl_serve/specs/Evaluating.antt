@@ -169,7 +169,7 @@ abbrev pub SaysRecord : Bool → Result (OpenEnd × RecordView) OpenUnwatched �
     Result Answer Refusal → Numbered RecordView → Type 0
 SaysRecord cut (Ok x) old r new = SaysAnswer cut x.0 x.1 old r new
 SaysRecord cut (Err (unwatched.Refused u)) old r new = (r ≡ Err (of_refused u)) × (new ≡ old)
-SaysRecord cut (Err (unwatched.Deleted e)) old r new = (r ≡ Err refusal.Deleted) × (new ≡ old)
+SaysRecord cut (Err (unwatched.Deleted deletion)) old r new = (r ≡ Err refusal.Deleted) × (new ≡ old)
 
 module _ (number : ℕ) (path : Path) (script : Text) (limit : ℕ) (watched : Path) where
   -- The run, and the record of what crossed the boundary of the interpreter at `watched`.
@@ -191,8 +191,8 @@ module _ (number : ℕ) (path : Path) (script : Text) (limit : ℕ) (watched : P
         (root_count before.tree + limit) ran left end)
     pub recorded : IfOk run (λ x. IsOpenRecord outside before.tree begun path script limit watched
         x.1 ran left x.0)
-    pub deleted : IfDeleted run (λ end. IsOpenDeletion outside before.tree begun path script limit
-        watched ran left end)
+    pub deleted : IfDeleted run (λ deletion. IsOpenDeletion outside before.tree begun path script
+        limit watched deletion.until ran left deletion.end)
     pub reacts : IfOk run (λ x. Reacts before.tree watched x.1.crossings ran)
     pub tree : t.tree ≡ ran
     pub comes : Comes before left t d

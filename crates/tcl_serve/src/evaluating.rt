@@ -224,7 +224,7 @@ fn recorded(
             }))
         }
         Err(OpenUnwatched::Refused(refused)) => Err(refusal_of(refused)),
-        Err(OpenUnwatched::Deleted(_end)) => Err(Refusal::Deleted),
+        Err(OpenUnwatched::Deleted(_deletion)) => Err(Refusal::Deleted),
     }
 }
 

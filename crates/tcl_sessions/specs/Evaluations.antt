@@ -73,7 +73,7 @@ Ends old o e w new z (Err f) = IsUnfit old e w f
 abbrev pub kept_of : Result (OpenEnd × RecordView) OpenUnwatched →
     Result (OpenEnd × Watch) Refusal
 kept_of (Ok r) = Ok (r.0, watch.Recorded r.1)
-kept_of (Err (unwatched.Deleted e)) = Ok (e, watch.Deleted)
+kept_of (Err (unwatched.Deleted d)) = Ok (d.end, watch.Deleted)
 kept_of (Err (unwatched.Refused u)) = Err (of_refused u)
 
 -- ## What is told of it

@@ -184,7 +184,7 @@ fn kept(ended: Result<(OpenEnd, Record), OpenUnwatched>) -> Result<(OpenEnd, Wat
 {
     match ended {
         Ok((end, record)) => Ok((end, Watch::Recorded(record))),
-        Err(OpenUnwatched::Deleted(end)) => Ok((end, Watch::Deleted)),
+        Err(OpenUnwatched::Deleted(deletion)) => Ok((deletion.end, Watch::Deleted)),
         Err(OpenUnwatched::Refused(refused)) => Err(Refusal::from(refused)),
     }
 }

@@ -87,24 +87,29 @@ fn condition(alloc: Global, text: Value) -> Result<Answer, AllocError> {
     }
 }
 
-/// What the root is told of a stop so many levels above a child that it called.
+/// What the root, in which an evaluation begins, is told of a stop so many levels above a child that
+/// it called.
 fn come_back_from(
     host: &mut MemoryHost,
-    tree: &Tree,
+    tree: &mut Tree,
     alloc: Global,
     levels_up: usize,
 ) -> Result<Result<Value, Interruption>, AllocError> {
+    let Ok(place) = tree.nest(&[]) else {
+        return Ok(Err(Interruption::Memory));
+    };
     let stop = Interruption::Stopped(Stop {
         levels_up,
         kind: StopKind::Count,
     });
     let down = [Text::new(alloc, "child")?];
-    Ok(return_to_caller(tree, alloc, host, tree.root(), 0, &down, Err(stop)))
+    Ok(return_to_caller(tree, alloc, host, place, 0, &down, Err(stop)))
 }
 
 /// `back LEVELS`: how the call of a child ends at such a stop.
-fn back(tree: &Tree, alloc: Global, levels_up: usize) -> Result<Answer, AllocError> {
-    match come_back_from(&mut MemoryHost::new(alloc)?, tree, alloc, levels_up)? {
+fn back(alloc: Global, levels_up: usize) -> Result<Answer, AllocError> {
+    let mut tree = Tree::new(alloc)?;
+    match come_back_from(&mut MemoryHost::new(alloc)?, &mut tree, alloc, levels_up)? {
         Err(Interruption::Completed(_)) => given(alloc, "completed"),
         Err(Interruption::Stopped(stop)) => count(alloc, stop.levels_up),
         _ => given(alloc, "another end"),
@@ -166,7 +171,7 @@ fn of_one(tree: &Tree, alloc: Global, call: &str, word: &Text) -> Result<Answer,
         "one" => spread_out(alloc, false, value_of(word)?),
         "expression" => truth(alloc, is_expression(tree, alloc, &value_of(word)?)),
         "condition" => condition(alloc, value_of(word)?),
-        "back" => back(tree, alloc, place_of(word)),
+        "back" => back(alloc, place_of(word)),
         "form" => form(alloc, &value_of(word)?),
         _ => no_call(alloc),
     }

@@ -8,6 +8,6 @@ pub returns-in-Some-clause-plays : goal.returns-in-Some-clause-plays
 returns-in-Some-clause-plays c = served_at c.serve_there.result (marks_of c.args.tree.now).integers (tree_of c.args.tree.now) (tree_of c.serve_there.new.tree) c.args.player.now c.serve_there.new.player c.as_slice-path.result.now c.args.target.items (whole_entry c.args.entry)
     c.as_slice-path.ensures.value c.serve_there.ensures.serves
 
-pub returns-in-None-clause-plays : goal.returns-in-None-clause-plays
-returns-in-None-clause-plays c = missed_at c.miss_entry.result c.args.tree.now c.args.player.now c.miss_entry.new.outside c.as_slice-path.result.now c.args.target.items (whole_entry c.args.entry)
+pub returns-clause-plays : goal.returns-clause-plays
+returns-clause-plays c = missed_at c.miss_entry.result c.args.tree.now c.args.player.now c.miss_entry.new.outside c.as_slice-path.result.now c.args.target.items (whole_entry c.args.entry)
     c.as_slice-path.ensures.value c.in-None.ensures.missing c.miss_entry.ensures.misses
