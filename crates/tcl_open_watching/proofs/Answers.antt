@@ -50,11 +50,11 @@ module _ {S : Type 0} (goes : Going S) (loses : S → S → Type 0) (old : Table
   Ran kept deleted e = IsOpenRun (recorded goes) old (noted (recorder_of o watched) (event path (In None (Eval script)))) path script (root_count old + limit) new (ended_with kept deleted) e
 
   -- what is recorded of a run, with the entry and its end
-  record WatchedEnd (kept : RecordView) (deleted : Bool) (e : OpenEnd) (run : Ran kept deleted e) (events : List (Event Own)) : Type 0 where
+  record WatchedEnd (k : RecordView) (d : Bool) (e : OpenEnd) (run : Ran k d e) (events : List (Event Own)) : Type 0 where
     pub visits : Visits (language (marks_of old).integers) (Runs (language (marks_of old).integers)) (before (limited limit (tree_of old)) (visit path (Eval script) events run.reply)) None path (Eval script) (before run.during []) (Some run.reply)
     pub outside : Chain (Crossings goes) [] (limited limit (tree_of old)) o events [] run.during run.between.outside
-    pub kept : kept ≡ after (record { watched = watched; crossings = [] }) (while_there false watched (visit path (Eval script) events run.reply))
-    pub fate : deleted ≡ fallen_after false watched (visit path (Eval script) events run.reply)
+    pub kept : k ≡ after (record { watched = watched; crossings = [] }) (while_there false watched (visit path (Eval script) events run.reply))
+    pub fate : d ≡ fallen_after false watched (visit path (Eval script) events run.reply)
 
   no_refusal : (P : Refused → Type 0) (deleted : Bool) (e : OpenEnd) (kept : RecordView) → IfRefused (answer_if deleted e kept) P
   no_refusal P true e kept = tt
