@@ -50,11 +50,11 @@ module _ {S : Type 0} (goes : Going S) (loses : S → S → Type 0) (old : Table
   Ran kept deleted e = IsOpenRun (recorded goes) old (noted (recorder_of o watched) (event path (In None (Eval script)))) path script (root_count old + limit) new (ended_with kept deleted) e
 
   -- what is recorded of a run, with the entry and its end
-  record WatchedEnd (k : RecordView) (d : Bool) (e : OpenEnd) (run : Ran k d e) (events : List (Event Own)) : Type 0 where
+  record WatchedEnd (kept : RecordView) (deleted : Bool) (e : OpenEnd) (run : Ran kept deleted e) (events : List (Event Own)) : Type 0 where
     pub visits : Visits (language (marks_of old).integers) (Runs (language (marks_of old).integers)) (before (limited limit (tree_of old)) (visit path (Eval script) events run.reply)) None path (Eval script) (before run.during []) (Some run.reply)
     pub outside : Chain (Crossings goes) [] (limited limit (tree_of old)) o events [] run.during run.between.outside
-    pub kept : k ≡ after (record { watched = watched; crossings = [] }) (while_there false watched (visit path (Eval script) events run.reply))
-    pub fate : d ≡ fallen_after false watched (visit path (Eval script) events run.reply)
+    pub record_is : kept ≡ after (record { watched = watched; crossings = [] }) (while_there false watched (visit path (Eval script) events run.reply))
+    pub fate : deleted ≡ fallen_after false watched (visit path (Eval script) events run.reply)
 
   no_refusal : (P : Refused → Type 0) (deleted : Bool) (e : OpenEnd) (kept : RecordView) → IfRefused (answer_if deleted e kept) P
   no_refusal P true e kept = tt
@@ -95,7 +95,7 @@ module _ {S : Type 0} (goes : Going S) (loses : S → S → Type 0) (old : Table
         record {
           visits = w.visits;
           outside = w.outside;
-          kept = told.kept ∙ end_noted run.between.deleted run.between.kept run.during path run.reply ∙ w.kept;
+          record_is = told.kept ∙ end_noted run.between.deleted run.between.kept run.during path run.reply ∙ w.kept;
           fate = told.fate ∙ w.fate;
         },
       )
@@ -106,7 +106,7 @@ module _ {S : Type 0} (goes : Going S) (loses : S → S → Type 0) (old : Table
       let w = kept_so kept deleted e there run in
       let tape : List (Event Own) = visit path (Eval script) w.0 run.reply in
       let spared : IsSpared watched tape = fates.spared watched tape (sym w.1.fate ∙ f) in (
-        ap (λ (k : RecordView). k.watched) w.1.kept,
+        ap (λ (k : RecordView). k.watched) w.1.record_is,
         record {
           during = run.during;
           between = run.between.outside;
@@ -115,7 +115,7 @@ module _ {S : Type 0} (goes : Going S) (loses : S → S → Type 0) (old : Table
             events = w.0;
             visits = w.1.visits;
             outside = w.1.outside;
-            recorded = ap (λ (k : RecordView). k.crossings) w.1.kept ∙ ap (boundary watched) (fates.there_spared watched tape spared);
+            recorded = ap (λ (k : RecordView). k.crossings) w.1.record_is ∙ ap (boundary watched) (fates.there_spared watched tape spared);
             spared = spared;
           };
           told = run.told.outside;
@@ -147,10 +147,10 @@ module _ {S : Type 0} (goes : Going S) (loses : S → S → Type 0) (old : Table
           parts = drop.parts;
           falls = drop.falls;
           spared = drop.spared;
-          recorded = ap (λ (k : RecordView). k.crossings) w.1.kept ∙ ap (boundary watched) (fates.there_drop watched tape drop) ∙ boundary_drop watched drop.first drop.dropped;
+          recorded = ap (λ (k : RecordView). k.crossings) w.1.record_is ∙ ap (boundary watched) (fates.there_drop watched tape drop) ∙ boundary_drop watched drop.first drop.dropped;
         };
         told = run.told.outside;
-        same = ap (λ (k : RecordView). k.watched) w.1.kept;
+        same = ap (λ (k : RecordView). k.watched) w.1.record_is;
         node = n.0;
         stood = n.1;
         after = run.after;
