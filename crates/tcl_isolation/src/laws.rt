@@ -41,9 +41,9 @@ pub fn reacts_there<O: Outside, I>()
     ensures { ReactsThere I O.goes }
 {}
 
-/// Where the watched interpreter is dropped, it or one above it, what the record tells until then is
-/// what the subtree does by itself with the moves until then: it has done what it was asked for, or
-/// it waits at a call that is open. That leaves the subtree as it stood when it was dropped.
+/// Where the watched interpreter is dropped, it or one above it, what the record tells until then
+/// is what the subtree does by itself with the moves until then: it has done what it was asked for,
+/// or it waits at a call that is open. That leaves the subtree as it stood when it was dropped.
 pub fn reacts_to_drop<O: Outside, I>()
     ensures { ReactsToDrop I O.goes }
 {}

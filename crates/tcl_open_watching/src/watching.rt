@@ -41,8 +41,8 @@ pub enum OpenUnwatched {
     Deleted(OpenDeletion),
 }
 
-/// What there is of an open evaluation in which the watched interpreter was deleted, it or one above
-/// it.
+/// What there is of an open evaluation in which the watched interpreter was deleted, it or one
+/// above it.
 #[derive(Drop)]
 pub struct OpenDeletion {
     /// How the whole evaluation ended.

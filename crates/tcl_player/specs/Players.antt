@@ -55,8 +55,9 @@ result_of outcome.Spent = Spent
 result_of outcome.Misfit = Misfit
 
 module _ (T : Tree Own) (p : Place) (d : ℕ) (o : Player Own) (h : Height) (i : Entry) where
-  -- The open call from p, so high up and for this, that went out when d evaluations were in progress
-  -- there, goes on by this move: an entry, or an answer that fits it and isn't an end from outside.
+  -- The open call from p, so high up and for this, that went out when d evaluations were in
+  -- progress there, goes on by this move: an entry, or an answer that fits it and isn't an end from
+  -- outside.
   abbrev pub GoesOn : Move Own → Player Own → Type 0
   GoesOn (Enter target entry) z = HandsIn o target entry z
   GoesOn (Come a) z = Answers T p o (Some (h, i, d)) a z × (is_told (gone d T p) h i a ≡ true)

@@ -11,8 +11,8 @@ use Rattle.tcl_core.specs.Trees.What.{Out, In, Done, Back, Unfound}
 use Rattle.tcl_core.specs.Views.{view}
 
 module _ {O : Type 0} where
-  -- a crossing that passes the top, in front of those that come later; an entry that finds nobody is
-  -- two, itself and its end
+  -- a crossing that passes the top, in front of those that come later; an entry that finds nobody
+  -- is two, itself and its end
   abbrev pub past : Place → What O → List (Event O) → List (Event O)
   past p (Out h down i) τ = put (rise_to h p) p (Out h down i) τ
   past p (Back h a) τ = put (rise_to h p) p (Back h a) τ

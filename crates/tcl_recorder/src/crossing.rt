@@ -22,8 +22,8 @@ use tcl_value::value::Value;
 pub enum Reply {
     /// By a completion.
     Completed(Completion),
-    /// By a stop, which names the watched interpreter or one below it. Where one above it is gone the
-    /// stop names the watched one, which is gone with it.
+    /// By a stop, which names the watched interpreter or one below it. Where one above it is gone
+    /// the stop names the watched one, which is gone with it.
     Stopped(Stop),
     /// By the exit of the whole run.
     Exited(i64),

@@ -46,8 +46,8 @@ pub fn fate_parts()
     ensures { FateParts }
 {}
 
-/// What happens while an interpreter is there is all, where it isn't dropped; else what happens up to
-/// where first it is dropped, or one above it.
+/// What happens while an interpreter is there is all, where it isn't dropped; else what happens up
+/// to where first it is dropped, or one above it.
 pub fn up_to_the_drop()
     ensures { UpToTheDrop }
 {}
@@ -59,8 +59,8 @@ pub fn records_the_boundary<O: Outside>()
     ensures { RecordsTheBoundary O.goes }
 {}
 
-/// A run with a recorder is a run over a tape whose boundary is added to the record, up to where the
-/// watched interpreter is dropped; and it is told whether it was.
+/// A run with a recorder is a run over a tape whose boundary is added to the record, up to where
+/// the watched interpreter is dropped; and it is told whether it was.
 pub fn runs_are_watched<O: Outside, I>()
     ensures { RunsAreWatched I O.goes }
 {}

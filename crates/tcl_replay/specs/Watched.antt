@@ -204,11 +204,11 @@ ReactsUntil old c crossings new = IsBelowTheTop c → (early late : List (Event 
     Suffices m (tree_of old c) (tree_of new c) →
     DoesUntil (language (marks_of old).integers) (at (tree_of old) c) early late m
 
--- Where it was deleted, it or one above it, and no entry was ended from outside until then: with the
--- moves of the record until then the subtree by itself has done what it was asked for, or it waits
--- at a call that is open; it tells what the record tells, and leaves the subtree that stood there
--- when it was deleted. So it is with every budget that isn't less than that of the whole run; and
--- it does nothing else with these moves.
+-- Where it was deleted, it or one above it, and no entry was ended from outside until then: with
+-- the moves of the record until then the subtree by itself has done what it was asked for, or it
+-- waits at a call that is open; it tells what the record tells, and leaves the subtree that stood
+-- there when it was deleted. So it is with every budget that isn't less than that of the whole run;
+-- and it does nothing else with these moves.
 abbrev pub ReactsToDrop : {S : Type 0} → (S → Request → HostReply → S → Type 0) → Watching S →
     RecordView → Table → S → End → Type 0
 ReactsToDrop step w r new z e = IsBelowTheTop w.watched → IsUnended r.crossings → (m : ℕ) →

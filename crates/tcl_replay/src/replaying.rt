@@ -94,9 +94,9 @@ pub enum Unplayed {
 
 impl Saved {
     /// Plays moves to the interpreter by itself, in order, up to what first ends that, with at most
-    /// so many counted steps. An entry for a path where nobody stands is told the path. But where it
-    /// is left at an open call, each interpreter is in use afterwards as deeply as before, or not at
-    /// all, as one that was deleted and made anew.
+    /// so many counted steps. An entry for a path where nobody stands is told the path. But where
+    /// it is left at an open call, each interpreter is in use afterwards as deeply as before, or
+    /// not at all, as one that was deleted and made anew.
     ///
     /// # Errors
     /// 412 and 404, which are looked for in this order; and 401.

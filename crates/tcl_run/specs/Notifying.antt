@@ -30,9 +30,9 @@ WasUnfound {S} goes T o t i r z = (c : Completion) (before : S) → r ≡ Comple
 -- nobody; of a call that passes the top; of the end of an entry that was handed in, that it found
 -- nobody, or of an exit by which it ends the call too: an outside goes from one state to the next
 -- by those events, the tree being what it is then; of a child that was dropped, whatever the tree
--- was before. Who called may be gone by the time of an answer: it held a level of depth. Of an entry
--- that found nobody an outside is told where it is in a state to which it came by handing that in:
--- it goes from the one before.
+-- was before. Who called may be gone by the time of an answer: it held a level of depth. Of an
+-- entry that found nobody an outside is told where it is in a state to which it came by handing
+-- that in: it goes from the one before.
 abbrev pub Notified : {S : Type 0} → Going S → Type 0 → Tree → S → Happening → S → Type 0
 Notified goes hands_in t o (happening.Dropped parent name) z =
     (T : core.Tree Own) (p : Path) → Names t parent p →

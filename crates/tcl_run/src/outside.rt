@@ -179,8 +179,8 @@ pub trait Outside {
         ensures lost { loses self.old self.new }
         ensures left { entries_left self.new ≤ entries_left self.old };
 
-    /// What comes next to the caller's call, which passed the top of the tree. A caller that is gone
-    /// is told of no completion, and of no word of the host (`told_to`).
+    /// What comes next to the caller's call, which passed the top of the tree. A caller that is
+    /// gone is told of no completion, and of no word of the host (`told_to`).
     ///
     /// # Errors
     /// How the call ended otherwise than by an ordinary result; want of memory.

@@ -79,8 +79,8 @@ module _ {O : Type 0} where
   abbrev pub DepthsStay : Tree O → List (Event O) → Tree O → Type 0
   DepthsStay T τ V = IsNested T → (q : Place) → IsSpared q τ → depth_of (V q) ≡ depth_of (T q)
 
-  -- Of the trees alone: each is in use afterwards as deeply as before, or not at all, as where it or
-  -- one above it was dropped. And so nobody is in use where nobody was.
+  -- Of the trees alone: each is in use afterwards as deeply as before, or not at all, as where it
+  -- or one above it was dropped. And so nobody is in use where nobody was.
   pub record DepthsComeBack (T V : Tree O) : Type 0 where
     pub same : IsNested T → (q : Place) → (depth_of (V q) ≡ depth_of (T q)) ⊎ (depth_of (V q) ≡ 0)
     pub rest : IsAtRest T → IsAtRest V

@@ -84,8 +84,8 @@ pub data ComesBack (o : Standing) (p : Path) (h : Height) (i : Entry) (a : core.
   waits : (n : ℕ) → IsFresh o → h ≡ Some n → a ≡ Replied (Cut Above) → Waits o p i z →
       ComesBack o p h i a z
 
--- An answer comes back, of which a caller that is gone is told what it may be; nothing else comes to
--- an open call.
+-- An answer comes back, of which a caller that is gone is told what it may be; nothing else comes
+-- to an open call.
 abbrev pub answered : Tree Own → Standing → Path → Wait → What Own → Standing → Type 0
 answered T o p (Some (h, i, d)) (Back k a) z = (b : core.Answer) ×
     (a ≡ told_to (gone d T p) b) × ComesBack o p h i b z

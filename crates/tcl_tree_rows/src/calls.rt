@@ -87,8 +87,8 @@ fn condition(alloc: Global, text: Value) -> Result<Answer, AllocError> {
     }
 }
 
-/// What the root, in which an evaluation begins, is told of a stop so many levels above a child that
-/// it called.
+/// What the root, in which an evaluation begins, is told of a stop so many levels above a child
+/// that it called.
 fn come_back_from(
     host: &mut MemoryHost,
     tree: &mut Tree,
