@@ -66,8 +66,8 @@ impl fmt::Debug for OpenUnwatched {
 /// # Errors
 /// 402; 403 where no interpreter stands at the path, or none at `watched`; 404; 122: they are
 /// looked for in this order, and change nothing. 401, by which the tree is broken. 411, with the
-/// end of the run and the record until then, where the watched interpreter was deleted in it, or one
-/// above it.
+/// end of the run and the record until then, where the watched interpreter was deleted in it, or
+/// one above it.
 pub fn open_watched<O: Outside>(
     tree: &mut Tree,
     alloc: Global,

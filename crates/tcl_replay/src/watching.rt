@@ -15,8 +15,8 @@ ghost use Rattle.tcl_recorder.specs.Recording.{noted};
 ghost use Rattle.tcl_replay.specs.Watched.{AsksTheHostNothing, Counts, CountStaysWithin, IfDeleted};
 ghost use Rattle.tcl_replay.specs.Watched.{IfEnds, IfRefused, IsDeletion, IsEntryRun, IsRecord};
 ghost use Rattle.tcl_replay.specs.Watched.{LeavesTheOutside, LimitsStay, Reacts, ReactsSo};
-ghost use Rattle.tcl_replay.specs.Watched.{ReactsToDrop, ReactsUntil, Stops, Watches, answer_of, unwatchable};
-ghost use Rattle.tcl_replay.specs.Watched.{watching};
+ghost use Rattle.tcl_replay.specs.Watched.{ReactsToDrop, ReactsUntil, Stops, Watches, answer_of};
+ghost use Rattle.tcl_replay.specs.Watched.{unwatchable, watching};
 ghost use Rattle.tcl_replay.specs.declared.watching.Unwatched.TheVariants as unwatched;
 
 use std::alloc::{AllocError, Global};

@@ -169,7 +169,7 @@ abbrev pub SaysRecord : Bool → Result (OpenEnd × RecordView) OpenUnwatched �
     Result Answer Refusal → Numbered RecordView → Type 0
 SaysRecord cut (Ok x) old r new = SaysAnswer cut x.0 x.1 old r new
 SaysRecord cut (Err (unwatched.Refused u)) old r new = (r ≡ Err (of_refused u)) × (new ≡ old)
-SaysRecord cut (Err (unwatched.Deleted deletion)) old r new = (r ≡ Err refusal.Deleted) × (new ≡ old)
+SaysRecord cut (Err (unwatched.Deleted _)) old r new = (r ≡ Err refusal.Deleted) × (new ≡ old)
 
 module _ (number : ℕ) (path : Path) (script : Text) (limit : ℕ) (watched : Path) where
   -- The run, and the record of what crossed the boundary of the interpreter at `watched`.
