@@ -1,10 +1,9 @@
 -- Programs that call, and wait for nothing.
 use Rattle.tcl_core.specs.Endings.{Completion}
 use Rattle.tcl_core.specs.Entries.Said.{Finished, Told, Missed}
-use Rattle.std.proofs.Common.{◌≡◌, Option, Some, None, refl}
-use Rattle.tcl_core.specs.Entries.{Entry, Said}
-use Rattle.tcl_core.specs.Trees.{Node}
-use Rattle.tcl_core.specs.Programs.{Calls_only, Prog, Table, or_lost}
+use Rattle.std.proofs.Common.{◌≡◌, None, refl}
+use Rattle.tcl_core.specs.Entries.{Said}
+use Rattle.tcl_core.specs.Programs.{Calls_only, Prog, or_lost}
 pub use Rattle.tcl_core.specs.Execution.{Fits, waits_for}
 use Rattle.tcl_core.specs.Programs.Prog.{done, exit, act, go, inside, call, wait}
 

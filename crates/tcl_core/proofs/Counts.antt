@@ -52,7 +52,6 @@ module _ {O : Type 0} where
 
   -- what costs nothing, and sets no limit
   free : (c p : Place) (x : What O) (T : Tree O) (n : Node O) → ((k : ℕ) → paid x k ≡ k) → limit_after x (strip p c) n.limit ≡ n.limit → IsSame (effect p x T c) n → Meters c p x T n
-  unfolding taken
   free c p x T n f l (m, e, g, h) = (m, e, (λ k. cost (strip c p) k), h ∙ sym l)
     where
       cost : (s : Option Place) (k : ℕ) → m.count + k ≡ n.count + taken s x k
@@ -60,7 +59,6 @@ module _ {O : Type 0} where
       cost (Some q) k = rw (f k, g) refl
 
   charged_at : (s : Option Place) (t : Option (Node O)) (n : Node O) → t ≡ Some n → (m : Node O) × (where_some s counted t ≡ Some m) × ((k : ℕ) → m.count + k ≡ n.count + taken s Charged k) × (m.limit ≡ n.limit)
-  unfolding taken
   charged_at None t n e = (n, e, (λ k. refl), refl)
   charged_at (Some q) t n e = (record n { count = suc n.count }, ap counted e, (λ k. omega arith), refl)
 
@@ -70,7 +68,6 @@ module _ {O : Type 0} where
   limited_at (Some (x ∷ q)) l t n e = (n, e, refl, refl)
 
   taken_free : (s : Option Place) (x : What O) (k : ℕ) → ((k : ℕ) → paid x k ≡ k) → taken s x k ≡ k
-  unfolding taken
   taken_free None x k f = refl
   taken_free (Some q) x k f = f k
 
@@ -102,7 +99,6 @@ module _ {O : Type 0} where
   paid_seen q _ k = refl
 
   steps_kept : (s b : Option Place) (x : What O) (τ : List (Event O)) → steps_of (kept s b x τ) ≡ taken s x (steps_of τ)
-  unfolding taken
   steps_kept None b x τ = steps_above b x τ
   steps_kept (Some q) b x τ = paid_seen q x (steps_of τ)
 
@@ -146,7 +142,6 @@ module _ {O : Type 0} where
 
   -- a charge finds room
   room_for : (c p : Place) (x : What O) (T : Tree O) (n : Node O) (k b : ℕ) → IsDue T p x → T c ≡ Some n → n.limit ≡ Some k → k ≤ b → n.count ≤ b → (j : ℕ) → (s : Option Place) → strip c p ≡ s → n.count + taken s x j ≤ b + j
-  unfolding taken
   room_for c p x T n k b due e f le g j None s = omega arith
   room_for c p Charged T n k b due e f le g j (Some q) s =
       let o : full_at is_spent (T c) ≡ false = open_above is_spent c q T (subst (λ r. blocked is_spent T r ≡ None) (strip-sound c p q s) due) in

@@ -1,25 +1,25 @@
 -- Where a subtree is dropped, what it did until then is what it does by itself.
-use Rattle.std.proofs.Common.{sym, ◌≡◌, ◌⊎◌, inl, inr, ℕ, zero, suc, ◌+◌, ◌-◌, ◌≤◌, Bool, true, false, List, [], ◌∷◌, ◌++◌, Option, Some, None, length, refl, ◌∙◌, ap, subst, arith, append-nil, append_assoc, length-append}
-use Rattle.tcl_core.specs.Paths.{Path, Place, strip, rise_to}
+use Rattle.std.proofs.Common.{sym, ◌≡◌, ◌⊎◌, inl, inr, ℕ, zero, suc, ◌+◌, ◌-◌, List, [], ◌∷◌, ◌++◌, Option, Some, None, length, refl, ◌∙◌, ap, subst, arith, append-nil, length-append}
+use Rattle.tcl_core.specs.Paths.{Path, Place, strip}
 use Rattle.tcl_core.specs.Endings.{Reply}
 use Rattle.tcl_core.specs.Endings.Reply.{Completed, Stop, Exit, Cut}
 use Rattle.tcl_core.specs.Entries.{Entry}
-use Rattle.tcl_core.specs.Trees.{Event, Grant, Grants, Move, Node, Tree, What, asked, at, effect, granted}
+use Rattle.tcl_core.specs.Trees.{Event, Grant, Move, Node, Tree, What, asked, at, granted}
 use Rattle.tcl_core.specs.Trees.Grant.{Allow}
-use Rattle.tcl_core.specs.Trees.Grants.{Listed, Budget}
+use Rattle.tcl_core.specs.Trees.Grants.{Listed}
 use Rattle.tcl_core.specs.Trees.Move.{Born, Fall, Enter, Come}
-use Rattle.tcl_core.specs.Trees.What.{Made, Dropped, In, Done, Unfound}
+use Rattle.tcl_core.specs.Trees.What.{Dropped, In, Unfound}
 use Rattle.tcl_core.specs.Programs.{Prog, Table}
 use Rattle.tcl_core.specs.Programs.Prog.{wait}
-use Rattle.tcl_core.specs.Runs.{World, Step, Ending, Halts, Runs, RunsIn, Stays, Visits, Waits, Enters}
-use Rattle.tcl_core.specs.Rules.{Derives, IsNoExit}
-use Rattle.tcl_core.specs.Views.{IsDue, from_above, grants_of, moves_of, steps_of, view, inside_of, kept}
-use Rattle.tcl_core.specs.Lives.{Lives, Outcome, React, Reacts, alone, begun, ended, idle, never, IsUncut, InProgress, outcome_of, ending_of, outs_of}
+use Rattle.tcl_core.specs.Runs.{World, Ending, Halts, Runs, RunsIn, Stays, Visits, Waits, Enters}
+use Rattle.tcl_core.specs.Rules.{IsNoExit}
+use Rattle.tcl_core.specs.Views.{from_above, grants_of, moves_of, steps_of, view, inside_of, kept}
+use Rattle.tcl_core.specs.Lives.{Lives, Outcome, Reacts, alone, begun, ended, idle, never, IsUncut, outcome_of, ending_of}
 use Rattle.tcl_core.specs.Lives.Outcome.{Finished, Waiting}
 use Rattle.tcl_core.specs.Lives.Reacts.{over, waiting}
-use Rattle.tcl_core.specs.Laws.{IsHeld, IsOpenOrDone, IsSpared, IsStanding, IsUnended, IsolationToDrop, Spares, Stands, after, more_grants}
-use Rattle.tcl_core.proofs.PathLaws.{not_both, Some-inj, strip-sound}
-use Rattle.tcl_core.proofs.RuleLaws.{runs_derived, derived_runs}
+use Rattle.tcl_core.specs.Laws.{IsHeld, IsOpenOrDone, IsSpared, IsStanding, IsolationToDrop, Spares, Stands, after, more_grants}
+use Rattle.tcl_core.proofs.PathLaws.{strip-sound}
+use Rattle.tcl_core.proofs.RuleLaws.{derived_runs}
 use Rattle.tcl_core.proofs.Keeping.{KeepsSteps, runs_keep}
 use Rattle.tcl_core.proofs.TreeLaws.{listed}
 use Rattle.tcl_core.proofs.Standing.{held_left, stands_of}
@@ -31,7 +31,7 @@ use Rattle.tcl_core.proofs.Halts.{halted_tape}
 use Rattle.tcl_core.proofs.Conclusions.{lives_within, moments}
 use Rattle.tcl_core.proofs.Unended.{uncut}
 use Rattle.tcl_core.proofs.Worlds.{begun_ins, ended_dones, within_done}
-use Rattle.tcl_core.proofs.UpToDrop.{Goes_to, UpTo, at_top_drop, at_top_made, drop, handed_after, in_no_drop, is_no_drop, no_cons, not_nil, only, visited, words_more, unfound_to, unfound_no_drop}
+use Rattle.tcl_core.proofs.UpToDrop.{Goes_to, UpTo, at_top_drop, at_top_made, drop, handed_after, in_no_drop, is_no_drop, not_nil, only, visited, words_more, unfound_to, unfound_no_drop}
 
 abbrev halted : Ending
 halted = None

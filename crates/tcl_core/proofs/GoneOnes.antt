@@ -2,13 +2,11 @@
 use Rattle.std.proofs.Common.{sym, ◌≡◌, ℕ, zero, suc, ◌+◌, ◌<◌, ◌≤◌, ◌&&◌, Bool, true, false, List, [], ◌∷◌, ◌++◌, Option, Some, None, length, nat_eq, nat_le, nat_lt, refl, ◌∙◌, ap, subst, arith, length-append}
 use Rattle.std.proofs.lemmas.Bool.Decides.{nat_tests}
 use Rattle.tcl_core.specs.Paths.{Place, strip}
-use Rattle.tcl_core.specs.Endings.{Reply}
 use Rattle.tcl_core.specs.Trees.{Event, Node, Tree, What, depth_of}
 use Rattle.tcl_core.specs.Trees.What.{Dropped}
-use Rattle.tcl_core.specs.Programs.{Prog, Table}
 use Rattle.tcl_core.specs.Runs.{World, Runs, gone, gone_by, grown, idle_up, levels, onward}
 use Rattle.tcl_core.specs.Laws.{Beneath, GoneIsDropped, IsSteady, IsUpright, depth_left, fall_at, fallen, farther, higher, highest, is_spared, none_there, spares}
-use Rattle.tcl_core.proofs.PathLaws.{down_into, not_both, strip-length, strip-sound, strip_own}
+use Rattle.tcl_core.proofs.PathLaws.{down_into, strip-length, strip-sound, strip_own}
 use Rattle.tcl_core.proofs.Depths.{steady}
 
 not_true : {A : Type 0} → false ≡ true → A

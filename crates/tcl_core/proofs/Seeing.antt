@@ -1,7 +1,7 @@
 -- Replies and answers as they are seen in a subtree.
 use Rattle.std.proofs.Common.{◌≡◌, ◌⊎◌, inl, inr, ℕ, zero, suc, ℤ, ◌+◌, ◌-◌, ◌<◌, ◌≤◌, Bool, true, false, List, [], ◌∷◌, ◌++◌, Option, Some, None, length, nat_le, nat_lt, nat_eq, refl, sym, ◌∙◌, ap, arith, length-append}
 use Rattle.std.proofs.lemmas.Bool.Decides.{nat_tests, Decides-int_eq}
-use Rattle.tcl_core.specs.Paths.{capped, Path, Place, Height, rise, rise_to, rejoined, falls, together, same, shorter, unless}
+use Rattle.tcl_core.specs.Paths.{Path, Place, Height, rise, rise_to, rejoined, falls, together, same, shorter, unless}
 use Rattle.tcl_core.specs.Endings.{Kind, Meter, Reply, IsQuit}
 use Rattle.tcl_core.specs.Endings.Kind.{Full, Gone}
 use Rattle.tcl_core.specs.Endings.Reply.{Completed, Stop, Exit, Cut}

@@ -1,8 +1,7 @@
 -- What a subtree does up to where it is dropped is what it does by itself with the moves until then.
-use Rattle.std.proofs.Common.{sym, ◌≡◌, ◌⊎◌, inl, inr, ℕ, zero, suc, ◌+◌, ◌-◌, ◌≤◌, Bool, true, false, List, [], ◌∷◌, ◌++◌, Option, Some, None, length, refl, ◌∙◌, ap, subst, arith, append-nil, append_assoc, length-append}
-use Rattle.tcl_core.specs.Paths.{Path, Place, strip, rise_to}
+use Rattle.std.proofs.Common.{sym, ◌≡◌, inl, inr, ℕ, suc, ◌+◌, Bool, List, [], ◌∷◌, ◌++◌, Option, Some, None, length, refl, ◌∙◌, ap, subst, arith, append-nil, append_assoc, length-append}
+use Rattle.tcl_core.specs.Paths.{Path, Place, rise_to}
 use Rattle.tcl_core.specs.Endings.{Reply, Completion}
-use Rattle.tcl_core.specs.Endings.Reply.{Completed, Stop, Exit, Cut}
 use Rattle.tcl_core.specs.Entries.{Entry}
 use Rattle.tcl_core.specs.Trees.{Event, Grant, Grants, Move, Node, Tree, What, asked, at, effect, granted}
 use Rattle.tcl_core.specs.Trees.Grant.{Allow}
@@ -11,19 +10,17 @@ use Rattle.tcl_core.specs.Trees.Move.{Born, Fall, Enter, Come}
 use Rattle.tcl_core.specs.Trees.What.{Made, Dropped, In, Done, Unfound}
 use Rattle.tcl_core.specs.Programs.{Prog, Table}
 use Rattle.tcl_core.specs.Programs.Prog.{wait}
-use Rattle.tcl_core.specs.Runs.{World, Step, Ending, Halts, Runs, RunsIn, Stays, Visits, Waits}
+use Rattle.tcl_core.specs.Runs.{World, Step, Ending, Runs, RunsIn, Visits}
 use Rattle.tcl_core.specs.Rules.{Derives, IsNoExit}
 use Rattle.tcl_core.specs.Rules.Derives.{entered, entered_halted, unanswered, unfound}
-use Rattle.tcl_core.specs.Views.{IsDue, moves_of, steps_of, view, inside_of, kept}
-use Rattle.tcl_core.specs.Lives.{Lives, Outcome, React, Reacts, alone, begun, ended, idle, never, IsUncut, InProgress, outcome_at, outcome_of, ending_of, outs_of}
-use Rattle.tcl_core.specs.Lives.Outcome.{Finished, Waiting}
-use Rattle.tcl_core.specs.Lives.Reacts.{over, waiting}
-use Rattle.tcl_core.specs.Laws.{AtMove, Happenings, IsHeld, IsSpared, IsStanding, IsUnended, Spares, Stands, after, more_grants, with_more}
-use Rattle.tcl_core.proofs.PathLaws.{not_both, Some-inj, strip-sound}
-use Rattle.tcl_core.proofs.RuleLaws.{runs_derived, derived_runs}
+use Rattle.tcl_core.specs.Views.{moves_of}
+use Rattle.tcl_core.specs.Lives.{Outcome, idle, never, outcome_at, outcome_of, ending_of}
+use Rattle.tcl_core.specs.Lives.Outcome.{Finished}
+use Rattle.tcl_core.specs.Laws.{AtMove, more_grants, with_more}
+use Rattle.tcl_core.proofs.RuleLaws.{runs_derived}
 use Rattle.tcl_core.proofs.Keeping.{KeepsSteps, derived_keep}
 use Rattle.tcl_core.proofs.MoreMoves.{more_moves}
-use Rattle.tcl_core.proofs.Budgets.{IsRich, budgeted, halting, words_for}
+use Rattle.tcl_core.proofs.Budgets.{words_for}
 use Rattle.tcl_core.proofs.Balance.{Owes, dones, ins, halted_more, owes, visit_owes}
 use Rattle.tcl_core.proofs.Reacting.{IsHanded, IsLasting, balanced_after, exits_idle, handed_step, lift_visits, never_halts}
 use Rattle.tcl_core.proofs.Halts.{halted_tape}

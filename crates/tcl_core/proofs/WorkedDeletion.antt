@@ -1,5 +1,5 @@
 -- The small lives in which an interpreter is dropped are lives.
-use Rattle.std.proofs.Common.{◌≡◌, ℕ, true, List, [], ◌∷◌, ◌++◌, Some, None, refl}
+use Rattle.std.proofs.Common.{ℕ, true, List, [], ◌∷◌, ◌++◌, Some, None, refl}
 use Rattle.tcl_core.specs.Paths.{Place}
 use Rattle.tcl_core.specs.Endings.{ok, refusal}
 use Rattle.tcl_core.specs.Endings.Kind.{Gone}
@@ -17,7 +17,7 @@ use Rattle.tcl_core.specs.Rules.Derives.{acted, called, called_out, called_passe
 use Rattle.tcl_core.specs.Lives.{alone, idle, never}
 use Rattle.tcl_core.specs.Lives.Reacts.{waiting}
 use Rattle.tcl_core.specs.Views.{moves_of, view}
-use Rattle.tcl_core.specs.Deletion.{WorkedDeletion, Script, after_deletion, asks_above, asks_parent, c, commands, deletion, entry, finished, first_tree, from_below, g, kills, program, start, tells_c, tells_g}
+use Rattle.tcl_core.specs.Deletion.{WorkedDeletion, Script, after_deletion, asks_above, asks_parent, c, commands, deletion, entry, first_tree, from_below, g, kills, program, start, tells_c, tells_g}
 use Rattle.tcl_core.proofs.RuleLaws.{derived_runs}
 
 abbrev tail : List (Event ℕ) → List (Event ℕ)

@@ -8,7 +8,7 @@ use Rattle.tcl_core.specs.Entries.{Entry, Said}
 use Rattle.tcl_core.specs.Entries.Entry.{Eval}
 use Rattle.tcl_core.specs.Entries.Said.{Finished, Told, Missed}
 use Rattle.tcl_core.specs.Entries.Answer.{Replied}
-use Rattle.tcl_core.specs.Trees.{Node, Tree, Event, What, Move, at, fresh}
+use Rattle.tcl_core.specs.Trees.{Node, Tree, Event, at, fresh}
 use Rattle.tcl_core.specs.Trees.Grants.{Budget}
 use Rattle.tcl_core.specs.Trees.What.{Seen, Changed, Charged, Nested, Unnested, Made, Dropped, Out}
 use Rattle.tcl_core.specs.Trees.What.{In, Done, Back}
