@@ -96,7 +96,8 @@ mod tests {
         }
         let host = MemoryHost::new(alloc)?;
         let script = "interp delete c";
-        match eval_watched(&mut tree, alloc, host, &[], script, 100, &[name]).1 {
+        let (_host, ended) = eval_watched(&mut tree, alloc, host, &[], script, 100, &[name]);
+        match ended {
             Err(error) => Ok(EmbedError::from(error)),
             Ok(_) => Err(Fail::new(format_args!("it was not deleted"))),
         }
