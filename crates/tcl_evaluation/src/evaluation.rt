@@ -146,8 +146,8 @@ fn eval_commands<O: Outside>(
     ensures keeps { Keeps O.entries_left tree.old tree.new outside.old outside.new }
 {
     let mut last = Value::empty();
-    let commands = script.commands();
-    'commands: for command in commands {
+    let all = script.commands();
+    'commands: for command in all {
         last = on_ok(eval_command(tree, alloc, outside, place, command))?;
     }
     finish(alloc, script.fault(), last)

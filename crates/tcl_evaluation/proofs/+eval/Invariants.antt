@@ -130,7 +130,7 @@ decreases-children::child g l = 32032 * g.O.Outside.entries_left l.outside.now +
 abbrev pub invariant-evaluation::eval_commands-commands : goal.invariant-evaluation::eval_commands-commands
 invariant-evaluation::eval_commands-commands g l = record {
   leads : (p : Path) (style : Integers) → IsAt l.fn.tree l.place p style →
-      Leads (ways g.O.Outside.goes g.O.Outside.loses) style (tree_of l.fn.tree) l.fn.outside p (commands l.fn.script.commands l.fn.script.fault []) (tree_of l.tree) l.outside (commands (map seen_command (drop l.command-index l.commands)) l.fn.script.fault l.last);
+      Leads (ways g.O.Outside.goes g.O.Outside.loses) style (tree_of l.fn.tree) l.fn.outside p (commands l.fn.script.commands l.fn.script.fault []) (tree_of l.tree) l.outside (commands (map seen_command (drop l.command-index l.all)) l.fn.script.fault l.last);
   here : IsHere l.fn.tree l.tree l.place;
   keeps : Keeps g.O.Outside.entries_left l.fn.tree l.tree l.fn.outside l.outside;
 }
