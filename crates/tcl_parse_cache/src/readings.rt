@@ -27,8 +27,10 @@ const MOST_MEMORY: usize = 1 << 24;
 /// for a literal.
 const FOR_A_BYTE: usize = 20;
 
-/// The same for each of its pieces, and besides, for its entry.
+/// The most that it takes besides for each of its pieces.
 const FOR_A_PIECE: usize = 120;
+
+/// The most that its entry takes.
 const FOR_AN_ENTRY: usize = 256;
 
 /// The most bytes that the texts of the expressions which are kept may have together.
@@ -199,7 +201,10 @@ impl Readings {
         if let Some((at, _, read)) = self.scripts.get_full(text) {
             if read.of == *text {
                 let script = read.script.clone()?;
-                return Ok(Found { script, at: Some(at) });
+                return Ok(Found {
+                    script,
+                    at: Some(at),
+                });
             }
         }
         let script = Rc::new(alloc, prepare(alloc, text.as_str())?)?;
