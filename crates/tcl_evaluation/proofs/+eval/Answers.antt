@@ -59,6 +59,7 @@ use Rattle.tcl_prepared.specs.declared.prepared.PreparedPart.{PreparedPart}
 use Rattle.tcl_prepared.specs.declared.prepared.PreparedWord.{PreparedWord}
 use Rattle.tcl_prepared.specs.declared.prepared.PreparedCommand.{PreparedCommand}
 use Rattle.tcl_evaluation.specs.View.{AreSingle, GoesOn}
+use Rattle.tcl_value.specs.Texts.{AllWithin}
 use Rattle.tcl_entries.proofs.Reached.{never_outside}
 use Rattle.tcl_core.specs.Programs.Prog.{done}
 use Rattle.tcl_language.specs.Interpreters.{asks_at}
@@ -599,6 +600,34 @@ words::call_four-returns-clause-here g t c = here_then c.call_texts.result c.arg
 
 pub words::call_four-returns-clause-keeps : goal.words::call_four-returns-clause-keeps
 words::call_four-returns-clause-keeps g t c = keeps-trans (keeps-trans (keeps-trans (keeps-trans c.eval_word.ensures.keeps c.eval_word-2.ensures.keeps) c.eval_word-3.ensures.keeps) c.eval_word-4.ensures.keeps) c.call_texts.ensures.keeps
+
+-- words of any kind
+
+pub words::call_words-call_two-requires : goal.words::call_words-call_two-requires
+words::call_words-call_two-requires g t c κs within = (search rules, (search rules, (c.requires.running, c.are_single.ensures c.if-not-are_single.false)))
+
+pub words::call_words-call_three-requires : goal.words::call_words-call_three-requires
+words::call_words-call_three-requires g t c κs within = (search rules, (search rules, (c.requires.running, c.are_single.ensures c.if-not-are_single.false)))
+
+pub words::call_words-call_four-requires : goal.words::call_words-call_four-requires
+words::call_words-call_four-requires g t c κs within = (search rules, (search rules, (c.requires.running, c.are_single.ensures c.if-not-are_single.false)))
+
+-- a command
+
+pub evaluation::eval_command-call_literals-requires : goal.evaluation::eval_command-call_literals-requires
+evaluation::eval_command-call_literals-requires g t c κs within = (search rules, (search rules, (c.requires.running, subst AllWithin (sym c.words.ensures.words) c.words.ensures.within)))
+
+pub evaluation::eval_command-returns-in-Constant-clause-runs : goal.evaluation::eval_command-returns-in-Constant-clause-runs
+evaluation::eval_command-returns-in-Constant-clause-runs g t c =
+    IfRan-more c.call_literals.result (EndsFrom (ways g.O.Outside.goes g.O.Outside.loses) c.args.tree.now c.args.outside.now c.args.place (λ style. words (map literal_word c.words.result.now) []) c.call_literals.new.tree c.call_literals.new.outside)
+    (EndsFrom (ways g.O.Outside.goes g.O.Outside.loses) c.args.tree.now c.args.outside.now c.args.place (λ style. words (seen_command c.args.command.now) []) c.call_literals.new.tree c.call_literals.new.outside)
+    (λ e h q style at. at_prog (ap (λ (command : PreparedCommand). words (seen_command command) []) c.in-Constant.is ∙ ap (λ (ts : List (List ℕ)). words (map literal_word ts) []) (sym c.words.ensures.words)) (h q style at)) c.call_literals.ensures.runs
+
+pub evaluation::eval_command-returns-in-General-clause-runs : goal.evaluation::eval_command-returns-in-General-clause-runs
+evaluation::eval_command-returns-in-General-clause-runs g t c =
+    IfRan-more c.call_words.result (EndsFrom (ways g.O.Outside.goes g.O.Outside.loses) c.args.tree.now c.args.outside.now c.args.place (λ style. words (map seen_word c.as_slice.result.now) []) c.call_words.new.tree c.call_words.new.outside)
+    (EndsFrom (ways g.O.Outside.goes g.O.Outside.loses) c.args.tree.now c.args.outside.now c.args.place (λ style. words (seen_command c.args.command.now) []) c.call_words.new.tree c.call_words.new.outside)
+    (λ e h q style at. at_prog (ap (λ (command : PreparedCommand). words (seen_command command) []) c.in-General.is ∙ ap (λ (ws : List PreparedWord). words (map seen_word ws) []) (sym c.as_slice.ensures.value)) (h q style at)) c.call_words.ensures.runs
 
 -- the commands of a script
 
