@@ -1,20 +1,8 @@
-//! The evaluation of scripts over a tree of interpreters.
+//! Of a trial alone: scripts and words over a stand-in for the calls of commands.
 #![tactic(auto)]
 
-mod children;
-mod collecting;
 mod commands;
-mod control;
-pub mod crossing;
 pub mod evaluation;
-mod expressions;
-mod hosting;
-mod interpreters;
-mod loops;
-mod operands;
+pub mod operands;
 mod preparations;
-mod sourcing;
-mod switching;
-mod trying;
-pub mod waiting;
 mod words;
