@@ -39,7 +39,8 @@ pub fn script(tree: &Tree, alloc: Global, text: &Text) -> Result<Rc<Prepared>, A
     ensures { IfOk result (λ script. script.value ≡ read_script text.now) }
 {
     let _tree = tree;
-    Rc::new(alloc, prepare(alloc, text.as_str())?)
+    let script = Rc::new(alloc, prepare(alloc, text.as_str())?)?;
+    Ok(script)
 }
 
 /// The value of the variable of this name, whose kind is known.

@@ -94,3 +94,6 @@ decreases-operands::substitute_read g l = 32032 * g.O.Outside.entries_left l.out
 
 abbrev pub decreases-operands::eval_operand : goal.decreases-operands::eval_operand
 decreases-operands::eval_operand g l = 32032 * g.O.Outside.entries_left l.outside.now + 32 * room (tree_of l.tree.now) + 5
+
+abbrev pub decreases-commands::call : goal.decreases-commands::call
+decreases-commands::call g l = 32032 * g.O.Outside.entries_left l.outside.now + 32 * room (tree_of l.tree.now) + 12
