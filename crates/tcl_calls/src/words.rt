@@ -18,7 +18,7 @@ ghost use Rattle.tcl_run.specs.declared.interruption.Interruption.TheVariants.{M
 use std::alloc::{AllocError, Global};
 use std::mem;
 use tcl_flow::completion;
-use tcl_parser::script::Script;
+use tcl_parser::fault::Fault;
 use tcl_run::failure::{failure, too_long};
 use tcl_run::interruption::Interruption;
 use tcl_run::steps::{read_list, read_variable};
@@ -37,10 +37,10 @@ pub struct OpenElement {
 
 /// What a script gives whose commands are done: its last result, or its fault.
 #[inline(never)]
-pub fn finish(alloc: Global, script: &Script, last: Value) -> Result<Value, Interruption>
-    ensures { IfEnded result (EndsBy (over script.now.fault last)) }
+pub fn finish(alloc: Global, fault: Option<Fault>, last: Value) -> Result<Value, Interruption>
+    ensures { IfEnded result (EndsBy (over fault last)) }
 {
-    match &script.fault {
+    match fault {
         None => Ok(last),
         Some(fault) => Err(failure(alloc, Text::new(alloc, fault.message())?)),
     }

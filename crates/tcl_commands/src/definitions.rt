@@ -150,12 +150,12 @@ fn define(
     }
 }
 
-/// The body of a procedure, which keeps the script that it is: no call reads it again.
-fn read_body(alloc: Global, body: &Value) -> Result<Value, AllocError>
+/// The body of a procedure, which is read, and keeps where that is found: no call reads it again.
+fn read_body(tree: &Tree, alloc: Global, body: &Value) -> Result<Value, AllocError>
     ensures { IfOk result (λ own. own ≡ body.now) }
 {
     let mut own = body.clone()?;
-    own.as_script(alloc)?;
+    tree.script_of(alloc, &mut own)?;
     Ok(own)
 }
 
@@ -178,7 +178,7 @@ pub fn proc(
         [name, parameters, body] => {
             let _kept = procedure_name(tree, alloc, place, name)?;
             let parameters = read_parameters(alloc, parameters)?;
-            let procedure = Procedure::new(alloc, parameters, read_body(alloc, body)?)?;
+            let procedure = Procedure::new(alloc, parameters, read_body(tree, alloc, body)?)?;
             define(tree, alloc, place, name, procedure)
         }
         _ => Err(wrong_args(alloc, "proc name args body")),

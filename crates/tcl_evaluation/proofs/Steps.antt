@@ -1,5 +1,6 @@
 -- What the parts of words, words and commands come to, step by step.
-use Rattle.std.proofs.Common.{◌≡◌, ◌⊎◌, inl, inr, ℕ, pos, ◌≤◌, Bool, true, false, List, [], ◌∷◌, ◌++◌, length, Option, Some, None, refl, sym, ◌∙◌, ap, subst, arith}
+use Rattle.std.proofs.Common.{◌≡◌, ◌⊎◌, inl, inr, ℕ, pos, ◌≤◌, Bool, true, false, List, [], ◌∷◌, ◌++◌, length, map, Option, Some, None, refl, sym, ◌∙◌, ap, subst, append-nil, append_assoc, arith}
+use Rattle.std.proofs.lemmas.Bool.Decides.{nat_tests}
 use Rattle.std.specs.Prelude.{Result, Ok, Err, MatchResult, IfErr, IfOk, OnOk}
 use Rattle.tcl_core.specs.Runs.{Ending}
 use Rattle.tcl_core.specs.Paths.{Path}
@@ -22,6 +23,7 @@ use Rattle.tcl_parser.specs.declared.fault.Fault.{Fault}
 use Rattle.tcl_parser.specs.declared.script.Part.{Part}
 use Rattle.tcl_parser.specs.declared.script.Part.TheVariants as part
 use Rattle.tcl_parser.specs.Words.{WordRead, Reading}
+use Rattle.tcl_prepared.specs.Views.{literal_parts, literal_word}
 use Rattle.tcl_run.specs.declared.interruption.Interruption.{Interruption}
 use Rattle.tcl_run.specs.declared.interruption.Interruption.TheVariants as interruption
 use Rattle.tcl_run.specs.Ends.{Breaks, IfRan, Interrupts, IfEnded, IsFailure, Stays, Gave, too_deep_at}
@@ -39,6 +41,7 @@ use Rattle.tcl_tree.specs.TreeOf.{tree_of}
 use Rattle.tcl_tree.specs.declared.tree.Tree.{Tree as Table}
 use Rattle.tcl_tree.specs.declared.tree.Place.{Place as TablePlace}
 use Rattle.tcl_variables.specs.declared.fault.FrameFault.{FrameFault}
+use Rattle.tcl_value.specs.Texts.{AllWithin}
 use Rattle.tcl_calls.specs.Words.{words_of, AtOk, Closes, ClosesBy, Adds, EndsBy}
 use Rattle.tcl_evaluation.specs.View.{read_so}
 
@@ -84,6 +87,10 @@ forgets A P Q (Err i) f g h n = subst (λ (j : Interruption). Breaks j Q) (sym g
 -- an evaluation's end that goes no further
 pub stays_of : (given : Result (List ℕ) Interruption) (i : Interruption) (P : Ending → Type 0) → given ≡ Err i → IfRan given P → Breaks i Stays → Breaks i (λ e. P e × Stays e)
 stays_of given i P same h s = Breaks-both i P Stays _ (λ e p q. (p, q)) (subst (λ (x : Result (List ℕ) Interruption). IfRan x P) same h) s
+
+-- a text within the limit of a value
+within_fits : (text : List ℕ) → length text ≤ 16777216 → fits text ≡ true
+within_fits text h = grind (arith, nat_tests)
 
 -- a command that has words
 some_words : (items : List (List ℕ)) → 1 ≤ length items → charged items ≡ act Charge (λ T. go (Call items) done)
@@ -214,6 +221,24 @@ module _ {S : Type 0} {ways : Ways S} (style : Integers) where
   word_goes word rest before after c text expand same a b f t s =
       goes_text {i = Parts word.parts [] []} (λ x. spread word.expand x (λ more. go (Words rest (before ++ more)) done)) c text a b t
       (spread_goes word.expand text before after (λ all. go (Words rest all) done) (subst (λ (x : Bool). Adds (words_of x text) before after) same f) (goes_done {i = Words rest after} s))
+
+  -- a word that isn't spread adds its text
+  pub single_goes : {T U V : Tree Own} {o u z : S} {p : Path} {r : Ending} (word : WordRead) (rest : List WordRead) (before : List (List ℕ)) (c : Completion) (text : List ℕ) → word.expand ≡ false → c.code ≡ pos 0 → c.text ≡ text →
+      Proceeds ways (language style) T o p (parts word.parts [] []) U u (Some (Completed c)) → Proceeds ways (language style) U u p (words rest (before ++ text ∷ [])) V z r → Proceeds ways (language style) T o p (words (word ∷ rest) before) V z r
+  single_goes word rest before c text single a b t s = word_goes word rest before (before ++ text ∷ []) c text false (sym single) a b refl t s
+
+  -- a word that stands for itself
+  pub lone : {T : Tree Own} {o : S} {p : Path} (x : List ℕ) → fits x ≡ true → Proceeds ways (language style) T o p (parts (literal_parts x) [] []) T o (Some (Completed (ok x)))
+  lone [] h = completed
+  lone (b ∷ s) h = literal_goes (b ∷ s) [] [] [] h completed
+
+  -- words that do so come to the command's step, behind those before them
+  pub lends : {T V : Tree Own} {o z : S} {p : Path} {r : Ending} (ts before : List (List ℕ)) → AllWithin ts →
+      Proceeds ways (language style) T o p (words [] (before ++ ts)) V z r → Proceeds ways (language style) T o p (words (map literal_word ts) before) V z r
+  lends [] before h t = at_prog (ap (words []) (sym (append-nil before))) t
+  lends (x ∷ xs) before h t =
+      single_goes (literal_word x) (map literal_word xs) before (ok x) x refl refl refl (lone x (within_fits x h.0))
+      (lends xs (before ++ x ∷ []) h.1 (at_prog (ap (words []) (append_assoc before (x ∷ []) xs)) t))
 
   -- given up behind a word
   pub word_lost : {T U V : Tree Own} {o u : S} {p : Path} {e : Ending} (word : WordRead) (rest : List WordRead) (before : List (List ℕ)) →

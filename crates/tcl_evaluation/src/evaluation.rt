@@ -1,5 +1,5 @@
 //! The evaluation of scripts, command by command and word by word.
-ghost use Rattle.std.specs.Prelude.{◌≡◌, ◌++◌, ◌∷◌, [], length, Some, OnOk, IfErr};
+ghost use Rattle.std.specs.Prelude.{◌≡◌, ◌++◌, ◌∷◌, [], length, map, Some, OnOk, IfErr};
 ghost use Rattle.std.specs.Prelude.{MatchResult};
 ghost use Rattle.std.specs.String.{string_bytes};
 ghost use Rattle.tcl_core.specs.Paths.{Path};
@@ -11,18 +11,19 @@ ghost use Rattle.tcl_run.specs.Runs.{IsHeld, IsHere, IsRunning, Keeps, ProceedsA
 ghost use Rattle.tcl_run.specs.Runs.{ways};
 ghost use Rattle.tcl_tree.specs.TreeOf.{tree_of, Names};
 ghost use Rattle.tcl_calls.specs.Words.{opens, IsShort};
+ghost use Rattle.tcl_prepared.specs.Views.{seen_command, seen_part, seen_word};
 ghost use Rattle.tcl_evaluation.specs.View.{PartGoes, PartBreaks, read_so};
 
-use crate::commands::call;
+use crate::words::{call_literals, call_words};
 use std::alloc::Global;
 use tcl_calls::words::{
-    OpenElement, append, append_value, close_element, finish, open_element, spread, within,
+    OpenElement, append, append_value, close_element, finish, open_element, within,
 };
-use tcl_parser::script::{Command, Part, Script, Word};
+use tcl_prepared::prepared::{Bracket, Prepared, PreparedCommand, PreparedPart, PreparedWord};
 use tcl_run::failure::too_deep;
 use tcl_run::interruption::Interruption;
 use tcl_run::outside::Outside;
-use tcl_run::steps::{charge, known_short, on_ok, read_variable};
+use tcl_run::steps::{known_short, on_ok, read_named};
 use tcl_text::text::Text;
 use tcl_tree::tree::{Place, Tree};
 use tcl_value::value::Value;
@@ -39,7 +40,7 @@ pub fn eval_script<O: Outside>(
     alloc: Global,
     outside: &mut O,
     place: Place,
-    script: &Script,
+    script: &Prepared,
 ) -> Result<Value, Interruption>
     requires { (p : Path) × Names tree.old place p }
     ensures runs { ProceedsAt (ways O.goes O.loses) tree.old outside.old place
@@ -105,6 +106,27 @@ pub fn eval_value<O: Outside>(
     eval_script(tree, alloc, outside, place, &script)
 }
 
+/// Evaluates a script in brackets that was read with the script around it, one level deeper.
+///
+/// # Errors
+/// Those of a script.
+#[cycle(eval)]
+fn eval_bracket<O: Outside>(
+    tree: &mut Tree,
+    alloc: Global,
+    outside: &mut O,
+    place: Place,
+    bracket: &Bracket,
+) -> Result<Value, Interruption>
+    requires { (p : Path) × Names tree.old place p }
+    ensures runs { ProceedsAt (ways O.goes O.loses) tree.old outside.old place
+        (λ style. scripts.script bracket.now) tree.new outside.new result }
+    ensures here { OnCompletion result (IsHere tree.old tree.new place) }
+    ensures keeps { Keeps O.entries_left tree.old tree.new outside.old outside.new }
+{
+    eval_script(tree, alloc, outside, place, bracket.script())
+}
+
 /// Evaluates a script's commands one after another, up to the first without an ordinary result, and
 /// then its fault.
 #[cycle(eval)]
@@ -114,7 +136,7 @@ fn eval_commands<O: Outside>(
     alloc: Global,
     outside: &mut O,
     place: Place,
-    script: &Script,
+    script: &Prepared,
 ) -> Result<Value, Interruption>
     requires running { IsRunning tree.old place }
     ensures runs { ProceedsIn (ways O.goes O.loses) tree.old outside.old place
@@ -124,13 +146,15 @@ fn eval_commands<O: Outside>(
     ensures keeps { Keeps O.entries_left tree.old tree.new outside.old outside.new }
 {
     let mut last = Value::empty();
-    'commands: for command in &script.commands {
+    let all = script.commands();
+    'commands: for command in all {
         last = on_ok(eval_command(tree, alloc, outside, place, command))?;
     }
-    finish(alloc, script, last)
+    finish(alloc, script.fault(), last)
 }
 
-/// Substitutes a command's words from left to right, makes a step and calls it.
+/// Substitutes a command's words from left to right, makes a step and calls it. Words each of which
+/// stands for itself are lent as they are.
 ///
 /// # Errors
 /// Those of the words; 101 to 104 of a word that is spread; the stop 308; those of the call; want
@@ -142,24 +166,22 @@ fn eval_command<O: Outside>(
     alloc: Global,
     outside: &mut O,
     place: Place,
-    command: &Command,
+    command: &PreparedCommand,
 ) -> Result<Value, Interruption>
     requires running { IsRunning tree.old place }
     ensures runs { ProceedsIn (ways O.goes O.loses) tree.old outside.old place
-        (λ style. scripts.words command.now []) tree.new outside.new result }
+        (λ style. scripts.words (seen_command command.now) []) tree.new outside.new result }
     ensures here { OnCompletion result (IsHere tree.old tree.new place) }
     ensures keeps { Keeps O.entries_left tree.old tree.new outside.old outside.new }
 {
-    let mut words = Vec::with_capacity(alloc, command.words.len())?;
-    'words: for word in &command.words {
-        let text = on_ok(eval_word(tree, alloc, outside, place, word))?;
-        spread(alloc, word.expand, text, &mut words)?;
+    match command {
+        PreparedCommand::Constant(literals) => {
+            call_literals(tree, alloc, outside, place, literals.words())
+        }
+        PreparedCommand::General(words) => {
+            call_words(tree, alloc, outside, place, words.as_slice())
+        }
     }
-    if words.is_empty() {
-        return Ok(Value::empty());
-    }
-    charge(tree, outside, place)?;
-    call(tree, alloc, outside, place, words.as_slice())
 }
 
 /// The text of a word.
@@ -173,17 +195,19 @@ pub(crate) fn eval_word<O: Outside>(
     alloc: Global,
     outside: &mut O,
     place: Place,
-    word: &Word,
+    word: &PreparedWord,
 ) -> Result<Value, Interruption>
     requires running { IsRunning tree.old place }
     ensures runs { ProceedsIn (ways O.goes O.loses) tree.old outside.old place
-        (λ style. scripts.parts word.now.parts [] []) tree.new outside.new result }
+        (λ style. scripts.parts (seen_word word.now).parts [] []) tree.new outside.new result }
     ensures here { OnCompletion result (IsHere tree.old tree.new place) }
     ensures keeps { Keeps O.entries_left tree.old tree.new outside.old outside.new }
 {
-    match word.parts.as_slice() {
-        [part] => eval_lone_part(tree, alloc, outside, place, part),
-        parts => substitute(tree, alloc, outside, place, parts),
+    match word {
+        PreparedWord::Literal(value) => Ok(known_short(value.clone()?)),
+        PreparedWord::Lone(part) => eval_lone_part(tree, alloc, outside, place, part),
+        PreparedWord::Parts(parts) => substitute(tree, alloc, outside, place, parts.as_slice()),
+        PreparedWord::Spread(parts) => substitute(tree, alloc, outside, place, parts.as_slice()),
     }
 }
 
@@ -195,39 +219,43 @@ fn eval_lone_part<O: Outside>(
     alloc: Global,
     outside: &mut O,
     place: Place,
-    part: &Part,
+    part: &PreparedPart,
 ) -> Result<Value, Interruption>
     requires running { IsRunning tree.old place }
     ensures runs { ProceedsIn (ways O.goes O.loses) tree.old outside.old place
-        (λ style. scripts.parts (part.now ∷ []) [] []) tree.new outside.new result }
+        (λ style. scripts.parts (seen_part part.now ∷ []) [] []) tree.new outside.new result }
     ensures here { OnCompletion result (IsHere tree.old tree.new place) }
     ensures keeps { Keeps O.entries_left tree.old tree.new outside.old outside.new }
 {
     match part {
-        Part::Literal(text) => within(alloc, text.clone()?),
-        Part::Variable(name) => read_variable(tree, alloc, place, name),
-        Part::Script(script) => {
+        PreparedPart::Literal(text) => within(alloc, text.clone()?),
+        PreparedPart::Variable(name) => read_named(tree, alloc, place, name),
+        PreparedPart::Bracket(bracket) => {
+            let value = on_ok(eval_bracket(tree, alloc, outside, place, bracket))?;
+            Ok(known_short(value))
+        }
+        PreparedPart::Deep(script) => {
             let value = on_ok(eval_text(tree, alloc, outside, place, script))?;
             Ok(known_short(value))
         }
-        Part::Element(_) => Ok(Value::empty()),
-        Part::EndElement => Ok(Value::empty()),
+        PreparedPart::Element(_) => Ok(Value::empty()),
+        PreparedPart::EndElement => Ok(Value::empty()),
     }
 }
 
 /// Substitutes a word's parts from left to right, and joins their texts.
 #[cycle(eval)]
 #[inline(never)]
-fn substitute<O: Outside>(
+pub(crate) fn substitute<O: Outside>(
     tree: &mut Tree,
     alloc: Global,
     outside: &mut O,
     place: Place,
-    parts: &[Part],
+    parts: &[PreparedPart],
 ) -> Result<Value, Interruption>
     requires running { IsRunning tree.old place }
     ensures runs { ProceedsIn (ways O.goes O.loses) tree.old outside.old place
-        (λ style. scripts.parts parts.now [] []) tree.new outside.new result }
+        (λ style. scripts.parts (map seen_part parts.now) [] []) tree.new outside.new result }
     ensures here { OnCompletion result (IsHere tree.old tree.new place) }
     ensures keeps { Keeps O.entries_left tree.old tree.new outside.old outside.new }
 {
@@ -247,31 +275,36 @@ fn eval_part<O: Outside>(
     alloc: Global,
     outside: &mut O,
     place: Place,
-    part: &Part,
+    part: &PreparedPart,
     elements: &mut Vec<OpenElement>,
     text: &mut String,
 ) -> Result<(), Interruption>
     requires running { IsRunning tree.old place }
     requires short { IsShort (string_bytes text.old) }
     ensures runs { MatchResult result
-        (λ _. PartGoes (ways O.goes O.loses) tree.old outside.old place part.now
+        (λ _. PartGoes (ways O.goes O.loses) tree.old outside.old place (seen_part part.now)
         (opens elements.old.items) (string_bytes text.old) tree.new outside.new
         (opens elements.new.items) (string_bytes text.new))
-        (λ i. Breaks i (PartBreaks (ways O.goes O.loses) tree.old outside.old place part.now
-        (opens elements.old.items) (string_bytes text.old) tree.new outside.new)) }
+        (λ i. Breaks i (PartBreaks (ways O.goes O.loses) tree.old outside.old place
+        (seen_part part.now) (opens elements.old.items) (string_bytes text.old) tree.new
+        outside.new)) }
     ensures short { OnOk result (IsShort (string_bytes text.new)) }
     ensures here { OnCompletion result (IsHere tree.old tree.new place) }
     ensures keeps { Keeps O.entries_left tree.old tree.new outside.old outside.new }
 {
     match part {
-        Part::Literal(literal) => append(alloc, text, literal.as_str()),
-        Part::Variable(name) => {
-            let value = read_variable(tree, alloc, place, name)?;
+        PreparedPart::Literal(literal) => append(alloc, text, literal.as_str()),
+        PreparedPart::Variable(name) => {
+            let value = read_named(tree, alloc, place, name)?;
             append_value(alloc, text, &value)
         }
-        Part::Element(name) => open_element(alloc, name, elements, text),
-        Part::EndElement => close_element(tree, alloc, place, elements, text),
-        Part::Script(script) => {
+        PreparedPart::Element(name) => open_element(alloc, name, elements, text),
+        PreparedPart::EndElement => close_element(tree, alloc, place, elements, text),
+        PreparedPart::Bracket(bracket) => {
+            let value = on_ok(eval_bracket(tree, alloc, outside, place, bracket))?;
+            append_value(alloc, text, &value)
+        }
+        PreparedPart::Deep(script) => {
             let value = on_ok(eval_text(tree, alloc, outside, place, script))?;
             append_value(alloc, text, &value)
         }

@@ -6,7 +6,8 @@ ghost use Rattle.tcl_run.specs.Runs.{IsHere, IsRunning, Keeps, ProceedsIn, ways}
 ghost use Rattle.tcl_evaluation.specs.Conditional.{Computes, TestGoes, TestBreaks, TurnGoes};
 ghost use Rattle.tcl_evaluation.specs.Conditional.{TurnBreaks};
 
-use crate::evaluation::{eval_value, eval_word};
+use crate::evaluation::eval_value;
+use crate::operands::eval_operand;
 use std::alloc::Global;
 use tcl_calls::branches::{Branches, branches_of};
 use tcl_calls::expressions::{holds, next_part, read_expression, settle};
@@ -48,7 +49,7 @@ fn expression<O: Outside>(
     'parts: loop {
         match next_part(evaluation, alloc, kept, style)? {
             Progress::Wants(word) => {
-                let value = on_ok(eval_word(tree, alloc, outside, place, word))?;
+                let value = on_ok(eval_operand(tree, alloc, outside, place, word))?;
                 evaluation.supply(value)?;
             }
             Progress::Done(value) => return settle(alloc, style, value),

@@ -1,5 +1,5 @@
 //! What texts were last read as.
-ghost use Rattle.std.specs.Prelude.{◌≡◌, Err, IfOk};
+ghost use Rattle.std.specs.Prelude.{◌≡◌, ◌≤◌, ◌+◌, length, Err, IfOk, IfSome};
 ghost use Rattle.indexmap.specs.IndexMap.{IsEmpty};
 ghost use Rattle.tcl_expr.specs.Expressions.{expression_of};
 ghost use Rattle.tcl_parser.specs.Reading.{read_script};
@@ -12,24 +12,35 @@ use std::rc::Rc;
 use tcl_expr::fault::{ExprError, ExprFault};
 use tcl_expr::parser::parse_expr;
 use tcl_expr::tree::ExprTree;
-use tcl_parser::reader::parse;
-use tcl_parser::script::Script;
+use tcl_prepared::prepared::Prepared;
+use tcl_prepared::preparing::{LONGEST, prepare};
 use tcl_text::integer::Integers;
 use tcl_text::limit::MOST_BYTES;
 use tcl_text::text::Text;
 use tcl_value::value::Value;
 
-/// The most bytes that the texts may have together whose readings are kept.
-const MOST_KEPT: usize = 1 << 20;
+/// The most bytes of memory that the scripts which are kept may take together.
+const MOST_MEMORY: usize = 1 << 24;
 
-/// The most bytes of a text whose reading is kept.
-const LONGEST: usize = 1 << 16;
+/// The most bytes of memory that one of them takes for each byte of its text: twice for the text
+/// itself, once for each of the 17 levels at which what stands there is a text again, and once more
+/// for a literal.
+const FOR_A_BYTE: usize = 20;
+
+/// The most that it takes besides for each of its pieces.
+const FOR_A_PIECE: usize = 120;
+
+/// The most that its entry takes.
+const FOR_AN_ENTRY: usize = 256;
+
+/// The most bytes that the texts of the expressions which are kept may have together.
+const MOST_TEXT: usize = 1 << 20;
 
 /// A text, and the script that it is.
 #[derive(Drop)]
 struct ReadScript {
     of: Text,
-    script: Rc<Script>,
+    script: Rc<Prepared>,
     ghost is_read: { script.value ≡ read_script of },
 }
 
@@ -42,58 +53,86 @@ struct ReadExpression {
     ghost is_read: { IsTree style of tree.value },
 }
 
+/// The script that a text is, and the place at which it is kept, if it is.
+#[derive(Drop)]
+struct Found {
+    script: Rc<Prepared>,
+    at: Option<usize>,
+}
+
 /// The scripts and expressions that texts were last read as.
 ///
 /// No reading depends on what is kept: it is that of its text, whether it is made anew or not.
-/// When the texts come to more than 1,048,576 bytes, all readings are dropped; those of texts of
-/// more than 65,536 bytes aren't kept.
+/// Where the scripts would take more than 16,777,216 bytes of memory, all of them are dropped, and
+/// where the texts of the expressions would come to more than 1,048,576 bytes, all of those. What
+/// texts of more than 65,536 bytes were read as isn't kept.
 pub struct Readings {
     scripts: IndexMap<Text, ReadScript>,
+    memory: usize,
     expressions: IndexMap<Text, ReadExpression>,
-    kept: usize,
+    texts: usize,
     alloc: Global,
+    ghost most: { memory ≤ 16777216 },
+    ghost most_text: { texts ≤ 1048576 },
 }
 
 impl Drop for Readings {
     fn drop(self) {
         let Readings {
             scripts: _scripts,
+            memory: _,
             expressions: _expressions,
-            kept: _,
+            texts: _,
             alloc: _,
         } = self;
     }
+}
+
+/// The most bytes of memory that a script takes, with its text and its entry.
+fn memory_of(text: &Text, script: &Prepared) -> usize {
+    let bytes = text.len().saturating_mul(FOR_A_BYTE);
+    let pieces = script.pieces().saturating_mul(FOR_A_PIECE);
+    bytes.saturating_add(pieces).saturating_add(FOR_AN_ENTRY)
 }
 
 impl Readings {
     /// No reading is kept.
     pub fn new(alloc: Global) -> Readings
         ensures scripts { IsEmpty result.scripts }
+        ensures memory { result.memory ≡ 0 }
         ensures expressions { IsEmpty result.expressions }
-        ensures kept { result.kept ≡ 0 }
+        ensures texts { result.texts ≡ 0 }
     {
         Readings {
             scripts: IndexMap::new(alloc),
+            memory: 0,
             expressions: IndexMap::new(alloc),
-            kept: 0,
+            texts: 0,
             alloc,
         }
     }
 
-    /// The script that a value is. Faults of its text are part of it. The value keeps it.
+    /// The script that a value is. Faults of its text are part of it. The value keeps where it is
+    /// found.
     ///
     /// # Errors
     /// Want of memory.
-    pub fn script_of(&mut self, alloc: Global, value: &mut Value) -> Result<Rc<Script>, AllocError>
+    pub fn script_of(
+        &mut self,
+        alloc: Global,
+        value: &mut Value,
+    ) -> Result<Rc<Prepared>, AllocError>
         ensures read { IfOk result (λ script. script.value ≡ read_script value.old) }
         ensures same { value.new ≡ value.old }
     {
-        if let Some(script) = value.script_at_hand()? {
+        if let Some(script) = self.script_at_hand(value)? {
             return Ok(script);
         }
         let text = value.text(alloc)?;
-        let script = self.script(alloc, &text)?;
-        value.keep_script(script.clone()?);
+        let Found { script, at } = self.find(alloc, &text)?;
+        if let Some(at) = at {
+            value.keep_reading(at);
+        }
         Ok(script)
     }
 
@@ -101,18 +140,10 @@ impl Readings {
     ///
     /// # Errors
     /// Want of memory.
-    pub fn script(&mut self, alloc: Global, text: &Text) -> Result<Rc<Script>, AllocError>
+    pub fn script(&mut self, alloc: Global, text: &Text) -> Result<Rc<Prepared>, AllocError>
         ensures { IfOk result (λ script. script.value ≡ read_script text.now) }
     {
-        if let Some(read) = self.scripts.get(text) {
-            if read.of == *text {
-                return read.script.clone();
-            }
-        }
-        let script = Rc::new(alloc, parse(alloc, text.as_str())?)?;
-        if self.has_room(text.len()) {
-            self.keep_script(text, script.clone()?)?;
-        }
+        let Found { script, at: _ } = self.find(alloc, text)?;
         Ok(script)
     }
 
@@ -139,47 +170,98 @@ impl Readings {
             }
         }
         let tree = Rc::new(alloc, parse_expr(alloc, text.as_str(), style)?)?;
-        if self.has_room(text.len()) {
+        if text.len() <= LONGEST {
             self.keep_expression(text, style, tree.clone()?)?;
         }
         Ok(tree)
     }
 
-    /// Keeps what a text was read as.
-    fn keep_script(&mut self, text: &Text, script: Rc<Script>) -> Result<(), AllocError>
-        requires { script.value ≡ read_script text.now }
+    /// The script that a value is, if it is found at the place that the value keeps. What stands
+    /// there may be that of another text.
+    fn script_at_hand(&self, value: &Value) -> Result<Option<Rc<Prepared>>, AllocError>
+        ensures { IfOk result (λ found. IfSome found
+            (λ script. script.value ≡ read_script value.now)) }
     {
-        let of = text.clone()?;
-        self.scripts
-            .insert(text.clone()?, ReadScript { of, script })?;
-        self.kept = self.kept.saturating_add(text.len());
-        Ok(())
+        let Some(at) = value.reading_at() else {
+            return Ok(None);
+        };
+        let Some((_, read)) = self.scripts.get_index(at) else {
+            return Ok(None);
+        };
+        if !value.is_text(read.of.as_str().as_bytes()) {
+            return Ok(None);
+        }
+        Ok(Some(read.script.clone()?))
     }
 
-    /// The same of an expression.
+    /// The script that a text is, found by the text or read.
+    fn find(&mut self, alloc: Global, text: &Text) -> Result<Found, AllocError>
+        ensures { IfOk result (λ found. found.script.value ≡ read_script text.now) }
+    {
+        if let Some((at, _, read)) = self.scripts.get_full(text) {
+            if read.of == *text {
+                let script = read.script.clone()?;
+                return Ok(Found {
+                    script,
+                    at: Some(at),
+                });
+            }
+        }
+        let script = Rc::new(alloc, prepare(alloc, text.as_str())?)?;
+        let at = self.keep_script(text, script.clone()?)?;
+        Ok(Found { script, at })
+    }
+
+    /// Keeps what a text was read as, unless it is too long or takes too much. Returns where.
+    fn keep_script(
+        &mut self,
+        text: &Text,
+        script: Rc<Prepared>,
+    ) -> Result<Option<usize>, AllocError>
+        requires { script.value ≡ read_script text.now }
+    {
+        let memory = memory_of(text, &script);
+        if text.len() > LONGEST || memory > MOST_MEMORY {
+            return Ok(None);
+        }
+        self.make_room(memory);
+        let of = text.clone()?;
+        let (at, _) = self
+            .scripts
+            .insert_full(text.clone()?, ReadScript { of, script })?;
+        self.memory = self.memory + memory;
+        Ok(Some(at))
+    }
+
+    /// Makes room for a script that takes so much: drops all others where they leave too little.
+    fn make_room(&mut self, memory: usize)
+        requires { memory ≤ 16777216 }
+        ensures { self.new.memory + memory ≤ 16777216 }
+    {
+        if memory > MOST_MEMORY - self.memory {
+            self.scripts = IndexMap::new(self.alloc);
+            self.memory = 0;
+        }
+    }
+
+    /// Keeps the expression that a text is, for which room is made in the same way.
     fn keep_expression(
         &mut self,
         text: &Text,
         style: Integers,
         tree: Rc<ExprTree>,
     ) -> Result<(), AllocError>
-        requires { IsTree style text.now tree.value }
+        requires tree { IsTree style text.now tree.value }
+        requires short { length text.now ≤ 65536 }
     {
+        if text.len() > MOST_TEXT - self.texts {
+            self.expressions = IndexMap::new(self.alloc);
+            self.texts = 0;
+        }
         let of = text.clone()?;
         self.expressions
             .insert(text.clone()?, ReadExpression { of, style, tree })?;
-        self.kept = self.kept.saturating_add(text.len());
+        self.texts = self.texts + text.len();
         Ok(())
-    }
-
-    /// Whether the reading of a text of so many bytes is to be kept, for which room is made.
-    fn has_room(&mut self, len: usize) -> bool {
-        if len > LONGEST {
-            return false;
-        }
-        if self.kept.saturating_add(len) > MOST_KEPT {
-            *self = Readings::new(self.alloc);
-        }
-        true
     }
 }

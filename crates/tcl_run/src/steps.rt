@@ -25,6 +25,7 @@ use std::alloc::Global;
 use tcl_flow::completion::OK;
 use tcl_flow::stop::{Stop, StopKind};
 use tcl_frames::frames::Frames;
+use tcl_prepared::name::VariableName;
 use tcl_text::limit::MOST_BYTES;
 use tcl_text::list::ListError;
 use tcl_text::text::Text;
@@ -110,6 +111,20 @@ pub fn read_variable(
         Ok(value) => Ok(known_short(value.clone()?)),
         Err(error) => Err(frame_failure(alloc, error)),
     }
+}
+
+/// The value of the variable of this name, whose kind is known.
+pub fn read_named(
+    tree: &Tree,
+    alloc: Global,
+    place: Place,
+    name: &VariableName,
+) -> Result<Value, Interruption>
+    ensures read { (p : Path) (n : core.Node Own) → Names tree.now place p →
+        tree_of tree.now p ≡ Some n → Gave frame_message (read n.own.chain.frames name.now) result }
+    ensures short { IfOk result (λ value. fits value ≡ true) }
+{
+    read_variable(tree, alloc, place, name.text())
 }
 
 /// The text of an ordinary completion, on which its caller goes on; anything else is the caller's

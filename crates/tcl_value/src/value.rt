@@ -9,7 +9,6 @@ ghost use Rattle.tcl_value.specs.Texts.{element_text, flat, IsElement};
 ghost use Rattle.tcl_value.specs.Reading.{int_of, list_of};
 ghost use Rattle.tcl_text.specs.Reading.{Gives};
 ghost use Rattle.tcl_text.specs.Writing.{Extends};
-ghost use Rattle.tcl_parser.specs.Reading.{read_script};
 ghost use Rattle.tcl_value.specs.Dicts.{without, dict_of, GivesDict};
 
 mod changing;
@@ -25,8 +24,6 @@ use itoa::Buffer;
 use std::alloc::{AllocError, AllocFailed, Global};
 use std::marker::Model;
 use std::rc::Rc;
-use tcl_parser::reader::parse;
-use tcl_parser::script::Script;
 use tcl_text::integer::{IntegerFault, Integers, int_len, push_int, read_int, write_int};
 use tcl_text::limit::MOST_BYTES;
 use tcl_text::list::{ListError, ListFault};
@@ -134,7 +131,7 @@ enum Form {
     Dict(Rc<Entries>),
 }
 
-/// What a value's text was last read as.
+/// What a value's text was last read as, or where its reading as a script is found.
 #[derive(Drop)]
 enum Kept {
     Nothing,
@@ -142,7 +139,7 @@ enum Kept {
     Tcl9(i64),
     List(List),
     Dict(Dict),
-    Script(Rc<Script>),
+    Reading(usize),
 }
 
 /// A value of the language, which contracts see as its text: the list of its bytes in UTF-8, of
@@ -511,43 +508,20 @@ impl Value {
         self.text(alloc)
     }
 
-    /// The script that its text is, which is kept. Faults of the text are part of the script.
-    ///
-    /// # Errors
-    /// Want of memory.
-    pub fn as_script(&mut self, alloc: Global) -> Result<Rc<Script>, AllocError>
-        ensures read { IfOk result (λ script. script.value ≡ read_script self.old) }
-        ensures text { self.new ≡ self.old }
-    {
-        if let Kept::Script(script) = &self.kept {
-            return script.clone();
-        }
-        let text = self.text(alloc)?;
-        let script = Rc::new(alloc, parse(alloc, text.as_str())?)?;
-        self.kept = Kept::Script(script.clone()?);
-        Ok(script)
-    }
-
-    /// The script that its text is, if that is what it was last read as.
-    ///
-    /// # Errors
-    /// Want of memory.
-    pub fn script_at_hand(&self) -> Result<Option<Rc<Script>>, AllocError>
-        ensures { IfOk result (λ found. IfSome found
-            (λ script. script.value ≡ read_script self.now)) }
-    {
+    /// The place that was kept last, unless something else was since: where its reading as a script
+    /// may be found. It says nothing of the text.
+    pub fn reading_at(&self) -> Option<usize> {
         match &self.kept {
-            Kept::Script(script) => Ok(Some(script.clone()?)),
-            _ => Ok(None),
+            Kept::Reading(at) => Some(*at),
+            _ => None,
         }
     }
 
-    /// Keeps the script that its text is.
-    pub fn keep_script(&mut self, script: Rc<Script>)
-        requires { script.value ≡ read_script self.old }
+    /// Keeps the place where its reading as a script is found.
+    pub fn keep_reading(&mut self, at: usize)
         ensures { self.new ≡ self.old }
     {
-        self.kept = Kept::Script(script);
+        self.kept = Kept::Reading(at);
     }
 }
 
@@ -637,7 +611,7 @@ impl Clone for Kept {
             Kept::Tcl9(n) => Ok(Kept::Tcl9(*n)),
             Kept::List(list) => Ok(Kept::List(list.clone()?)),
             Kept::Dict(dict) => Ok(Kept::Dict(dict.clone()?)),
-            Kept::Script(script) => Ok(Kept::Script(script.clone()?)),
+            Kept::Reading(at) => Ok(Kept::Reading(*at)),
         }
     }
 }

@@ -4,7 +4,7 @@ use Rattle.std.specs.String.{string_bytes}
 use Rattle.tcl_core.specs.Paths.{Path}
 use Rattle.tcl_core.specs.Trees.{Node, depth_of}
 use Rattle.tcl_parser.specs.declared.script.Part.TheVariants as part
-use Rattle.tcl_run.specs.Ends.{too_deep_at, IsFailure}
+use Rattle.tcl_run.specs.Ends.{IfEnded, too_deep_at, IsFailure}
 use Rattle.tcl_tree.specs.Own.{Own}
 use Rattle.tcl_tree.specs.TreeOf.{tree_of, Names}
 use Rattle.tcl_tree.proofs.CoreLemmas.{tree_there, top_there}
@@ -50,8 +50,16 @@ use Rattle.std.proofs.Common.{false}
 use Rattle.std.specs.Prelude.{Err}
 use Rattle.tcl_run.specs.Runs.{IsThere}
 use Rattle.tcl_text.specs.declared.integer.Integers.{Integers}
-use Rattle.tcl_text.proofs.Items.{item_on, none_on, no_item, split_first, one_item, two_items, three_items}
-use Rattle.tcl_evaluation.specs.View.{GoesOn}
+use Rattle.tcl_text.proofs.Items.{item_on, none_on, no_item, split_first, one_item, two_items, three_items, four_items}
+use Rattle.std.proofs.lemmas.Bool.Decides.{nat_tests}
+use Rattle.std.proofs.Common.{Option}
+use Rattle.tcl_parser.specs.declared.fault.Fault.{Fault}
+use Rattle.tcl_prepared.specs.Views.{literal_parts, literal_word, seen_command, seen_part, seen_word}
+use Rattle.tcl_prepared.specs.declared.prepared.PreparedPart.{PreparedPart}
+use Rattle.tcl_prepared.specs.declared.prepared.PreparedWord.{PreparedWord}
+use Rattle.tcl_prepared.specs.declared.prepared.PreparedCommand.{PreparedCommand}
+use Rattle.tcl_evaluation.specs.View.{AreSingle, GoesOn}
+use Rattle.tcl_value.specs.Texts.{AllWithin}
 use Rattle.tcl_entries.proofs.Reached.{never_outside}
 use Rattle.tcl_core.specs.Programs.Prog.{done}
 use Rattle.tcl_language.specs.Interpreters.{asks_at}
@@ -177,102 +185,479 @@ use Rattle.tcl_run.proofs.Endings.{ran, ran_text}
 use Rattle.tcl_text.proofs.Emptiness.{some_is, zero_is}
 use Rattle.tcl_evaluation.proofs.+eval.Goals as goal
 
--- the words of a command
+-- the call of a command with its words' texts
 
-pub evaluation::eval_command-returns-in_err-words-clause-runs : goal.evaluation::eval_command-returns-in_err-words-clause-runs
-evaluation::eval_command-returns-in_err-words-clause-runs g t c =
+pub words::call_texts-returns-then-is_empty-clause-runs : goal.words::call_texts-returns-then-is_empty-clause-runs
+words::call_texts-returns-then-is_empty-clause-runs g t c = λ q style at.
+    let empty : c.args.texts.now ≡ [] = no_item c.args.texts.now (let e = c.is_empty.ensures in let yes = c.if-is_empty.true in grind (arith, nat_tests)) in
+    Steps.no_words style c.args.texts.now empty (ap (λ (x : List ℕ). Completed (ok x)) c.empty.ensures)
+
+pub words::call_texts-returns-then-is_empty-clause-here : goal.words::call_texts-returns-then-is_empty-clause-here
+words::call_texts-returns-then-is_empty-clause-here g t c = here-refl c.args.tree.now c.args.place
+
+pub words::call_texts-returns-in_err-charge-clause-runs : goal.words::call_texts-returns-in_err-charge-clause-runs
+words::call_texts-returns-in_err-charge-clause-runs g t c =
+    let some : 1 ≤ length c.args.texts.now = (let e = c.is_empty.ensures in let no = c.if-is_empty.false in grind (arith, nat_tests)) in
+    let p = err_from_is_err_and c.from_residual.result c.from_residual.ensures.1 in
+    says_err c.from_residual.result c.in_err-charge.field-0.0 p.0 _ _ _ p.1 p.2 c.in_err-charge.ensures.refused
+    (λ e h q style at. Steps.charged_stops style c.args.texts.now some (h q at.names))
+
+pub words::call_texts-returns-in_err-charge-clause-here : goal.words::call_texts-returns-in_err-charge-clause-here
+words::call_texts-returns-in_err-charge-clause-here g t c = on_completion c.from_residual.result (IsHere c.args.tree.now c.charge.new.tree c.args.place) (level_here c.args.tree.now c.charge.new.tree c.args.place c.charge.ensures.level)
+
+pub words::call_texts-returns-in_err-charge-clause-keeps : goal.words::call_texts-returns-in_err-charge-clause-keeps
+words::call_texts-returns-in_err-charge-clause-keeps g t c = charged_keeps c.charge.ensures.level c.charge.ensures.left
+
+pub words::call_texts-call-requires : goal.words::call_texts-call-requires
+words::call_texts-call-requires g t c κs within = (search rules, (search rules, still_running c.args.tree.now c.charge.new.tree c.args.place (level_here c.args.tree.now c.charge.new.tree c.args.place c.charge.ensures.level) c.requires))
+
+pub words::call_texts-returns-clause-runs : goal.words::call_texts-returns-clause-runs
+words::call_texts-returns-clause-runs g t c =
+    let some : 1 ≤ length c.args.texts.now = (let e = c.is_empty.ensures in let no = c.if-is_empty.false in grind (arith, nat_tests)) in
+    IfRan-more c.call.result (EndsFrom (ways g.O.Outside.goes g.O.Outside.loses) c.charge.new.tree c.charge.new.outside c.args.place (λ style. called style c.args.texts.now) c.call.new.tree c.call.new.outside)
+    (EndsFrom (ways g.O.Outside.goes g.O.Outside.loses) c.args.tree.now c.args.outside.now c.args.place (λ style. words [] c.args.texts.now) c.call.new.tree c.call.new.outside) (λ e h q style at.
+    Steps.charged_calls style c.args.texts.now some (c.in_ok-charge.ensures.counted q at.names) (h q style (still_at c.args.tree.now c.charge.new.tree c.args.place q style (level_here c.args.tree.now c.charge.new.tree c.args.place c.charge.ensures.level) at))) c.call.ensures.runs
+
+pub words::call_texts-returns-clause-here : goal.words::call_texts-returns-clause-here
+words::call_texts-returns-clause-here g t c = here_then c.call.result c.args.tree.now c.charge.new.tree c.call.new.tree c.args.place (level_here c.args.tree.now c.charge.new.tree c.args.place c.charge.ensures.level) c.call.ensures.here
+
+pub words::call_texts-returns-clause-keeps : goal.words::call_texts-returns-clause-keeps
+words::call_texts-returns-clause-keeps g t c = keeps-trans (charged_keeps c.charge.ensures.level c.charge.ensures.left) c.call.ensures.keeps
+
+-- words each of which stands for itself
+
+pub words::call_literals-returns-clause-runs : goal.words::call_literals-returns-clause-runs
+words::call_literals-returns-clause-runs g t c =
+    IfRan-more c.call_texts.result (EndsFrom (ways g.O.Outside.goes g.O.Outside.loses) c.args.tree.now c.args.outside.now c.args.place (λ style. words [] c.args.words.now) c.call_texts.new.tree c.call_texts.new.outside)
+    (EndsFrom (ways g.O.Outside.goes g.O.Outside.loses) c.args.tree.now c.args.outside.now c.args.place (λ style. words (map literal_word c.args.words.now) []) c.call_texts.new.tree c.call_texts.new.outside)
+    (λ e h q style at. Steps.lends style c.args.words.now [] c.requires.within (h q style at)) c.call_texts.ensures.runs
+
+-- any number of words
+
+pub words::call_many-returns-in_err-texts-clause-runs : goal.words::call_many-returns-in_err-texts-clause-runs
+words::call_many-returns-in_err-texts-clause-runs g t c =
     let p = err_from_is_err_and c.from_residual.result c.from_residual.ensures.1 in
     memory_err c.from_residual.result p.0 _ _ p.1 p.2 (λ q style at. stopped)
 
-pub evaluation::eval_command-returns-in_err-text-clause-runs : goal.evaluation::eval_command-returns-in_err-text-clause-runs
-evaluation::eval_command-returns-in_err-text-clause-runs g t c =
-    let item = item_on c.deref-word-items.result.now c.words.word-index c.word-item.result c.words-test.true c.word-item.is in
+pub words::call_many-returns-in_err-texts-clause-here : goal.words::call_many-returns-in_err-texts-clause-here
+words::call_many-returns-in_err-texts-clause-here g t c = unmoved c.from_residual.result c.args.tree.now c.args.place
+
+pub words::call_many-eval_word-requires : goal.words::call_many-eval_word-requires
+words::call_many-eval_word-requires g t c κs within = (search rules, (search rules, still_running c.args.tree.now c.words.tree c.args.place c.words.invariant.here c.requires.running))
+
+pub words::call_many-returns-in_err-text-clause-runs : goal.words::call_many-returns-in_err-text-clause-runs
+words::call_many-returns-in_err-text-clause-runs g t c =
+    let item = item_on c.args.words.now c.words.word-index c.word-item.result c.words-test.true c.word-item.is in
     let p = err_from_is_err_and c.from_residual-in_err-text.result c.from_residual-in_err-text.ensures.1 in
     ran_err c.from_residual-in_err-text.result c.in_err-text.field-0.0 p.0 _ _ _ p.1 p.2
-    (stays_of c.eval_word.result c.in_err-text.field-0.0 (EndsFrom (ways g.O.Outside.goes g.O.Outside.loses) c.words.tree c.words.outside c.args.place (λ style. parts c.word-item.result.parts [] []) c.eval_word.new.tree c.eval_word.new.outside) c.in_err-text.ensures.same c.eval_word.ensures.runs c.in_err-text.ensures.stays)
-    (λ e h q style at. c.words.invariant.leads q style at _ _ _ (at_prog (ap (λ (ws : List WordRead). words ws c.words.words.items) item)
-    (Steps.word_stays style c.word-item.result _ c.words.words.items e h.1 (h.0 q style (still_at c.args.tree.now c.words.tree c.args.place q style c.words.invariant.here at)))))
+    (stays_of c.eval_word.result c.in_err-text.field-0.0 (EndsFrom (ways g.O.Outside.goes g.O.Outside.loses) c.words.tree c.words.outside c.args.place (λ style. parts (seen_word c.word-item.result).parts [] []) c.eval_word.new.tree c.eval_word.new.outside) c.in_err-text.ensures.same c.eval_word.ensures.runs c.in_err-text.ensures.stays)
+    (λ e h q style at. c.words.invariant.leads q style at _ _ _ (at_prog (ap (λ (ws : List PreparedWord). words (map seen_word ws) c.words.texts.items) item)
+    (Steps.word_stays style (seen_word c.word-item.result) _ c.words.texts.items e h.1 (h.0 q style (still_at c.args.tree.now c.words.tree c.args.place q style c.words.invariant.here at)))))
 
-pub evaluation::eval_command-returns-in_err-spread-clause-runs : goal.evaluation::eval_command-returns-in_err-spread-clause-runs
-evaluation::eval_command-returns-in_err-spread-clause-runs g t c =
-    let item = item_on c.deref-word-items.result.now c.words.word-index c.word-item.result c.words-test.true c.word-item.is in
+pub words::call_many-returns-in_err-text-clause-here : goal.words::call_many-returns-in_err-text-clause-here
+words::call_many-returns-in_err-text-clause-here g t c =
+    let p = err_from_is_err_and c.from_residual-in_err-text.result c.from_residual-in_err-text.ensures.1 in
+    here_passed c.from_residual-in_err-text.result c.eval_word.result c.in_err-text.field-0.0 p.0 c.args.tree.now c.words.tree c.eval_word.new.tree c.args.place p.1 p.2 c.in_err-text.ensures.same c.words.invariant.here c.eval_word.ensures.here
+
+pub words::call_many-returns-in_err-text-clause-keeps : goal.words::call_many-returns-in_err-text-clause-keeps
+words::call_many-returns-in_err-text-clause-keeps g t c = keeps-trans c.words.invariant.keeps c.eval_word.ensures.keeps
+
+pub words::call_many-returns-in_err-spread-clause-runs : goal.words::call_many-returns-in_err-spread-clause-runs
+words::call_many-returns-in_err-spread-clause-runs g t c =
+    let item = item_on c.args.words.now c.words.word-index c.word-item.result c.words-test.true c.word-item.is in
     let p = err_from_is_err_and c.from_residual-in_err-spread.result c.from_residual-in_err-spread.ensures.1 in
-    let x = ran_text c.eval_word.result c.in_ok-text.text (EndsFrom (ways g.O.Outside.goes g.O.Outside.loses) c.words.tree c.words.outside c.args.place (λ style. parts c.word-item.result.parts [] []) c.eval_word.new.tree c.eval_word.new.outside) c.in_ok-text.ensures.text c.eval_word.ensures.runs in
+    let x = ran_text c.eval_word.result c.in_ok-text.text (EndsFrom (ways g.O.Outside.goes g.O.Outside.loses) c.words.tree c.words.outside c.args.place (λ style. parts (seen_word c.word-item.result).parts [] []) c.eval_word.new.tree c.eval_word.new.outside) c.in_ok-text.ensures.text c.eval_word.ensures.runs in
     fails_err c.from_residual-in_err-spread.result c.in_err-spread.field-0.0 p.0 _ _ _ p.1 p.2 c.in_err-spread.ensures
-    (λ e h q style at. c.words.invariant.leads q style at _ _ _ (at_prog (ap (λ (ws : List WordRead). words ws c.words.words.items) item)
-    (Steps.word_fails style c.word-item.result _ c.words.words.items x.0 c.in_ok-text.text e _ (ap (λ (w : WordRead). w.expand) c.word.view_is) x.2 x.3 h (x.1 q style (still_at c.args.tree.now c.words.tree c.args.place q style c.words.invariant.here at)))))
-    (λ q style at. c.words.invariant.leads q style at _ _ _ (at_prog (ap (λ (ws : List WordRead). words ws c.words.words.items) item)
-    (Steps.word_lost style c.word-item.result _ c.words.words.items (x.1 q style (still_at c.args.tree.now c.words.tree c.args.place q style c.words.invariant.here at)))))
+    (λ e h q style at. c.words.invariant.leads q style at _ _ _ (at_prog (ap (λ (ws : List PreparedWord). words (map seen_word ws) c.words.texts.items) item)
+    (Steps.word_fails style (seen_word c.word-item.result) _ c.words.texts.items x.0 c.in_ok-text.text e _ c.expands.ensures x.2 x.3 h (x.1 q style (still_at c.args.tree.now c.words.tree c.args.place q style c.words.invariant.here at)))))
+    (λ q style at. c.words.invariant.leads q style at _ _ _ (at_prog (ap (λ (ws : List PreparedWord). words (map seen_word ws) c.words.texts.items) item)
+    (Steps.word_lost style (seen_word c.word-item.result) _ c.words.texts.items (x.1 q style (still_at c.args.tree.now c.words.tree c.args.place q style c.words.invariant.here at)))))
 
-pub evaluation::eval_command-words-preserved : goal.evaluation::eval_command-words-preserved
-evaluation::eval_command-words-preserved g t c =
-    let item = item_on c.deref-word-items.result.now c.words.word-index c.word-item.result c.words-test.true c.word-item.is in
-    let x = ran_text c.eval_word.result c.in_ok-text.text (EndsFrom (ways g.O.Outside.goes g.O.Outside.loses) c.words.tree c.words.outside c.args.place (λ style. parts c.word-item.result.parts [] []) c.eval_word.new.tree c.eval_word.new.outside) c.in_ok-text.ensures.text c.eval_word.ensures.runs in
+pub words::call_many-returns-in_err-spread-clause-here : goal.words::call_many-returns-in_err-spread-clause-here
+words::call_many-returns-in_err-spread-clause-here g t c = on_completion c.from_residual-in_err-spread.result (IsHere c.args.tree.now c.eval_word.new.tree c.args.place) (here-trans c.args.tree.now c.words.tree c.eval_word.new.tree c.args.place c.words.invariant.here (here_text c.eval_word.result c.in_ok-text.text c.words.tree c.eval_word.new.tree c.args.place c.in_ok-text.ensures.text c.eval_word.ensures.here))
+
+pub words::call_many-returns-in_err-spread-clause-keeps : goal.words::call_many-returns-in_err-spread-clause-keeps
+words::call_many-returns-in_err-spread-clause-keeps g t c = keeps-trans c.words.invariant.keeps c.eval_word.ensures.keeps
+
+pub words::call_many-words-preserved : goal.words::call_many-words-preserved
+words::call_many-words-preserved g t c =
+    let item = item_on c.args.words.now c.words.word-index c.word-item.result c.words-test.true c.word-item.is in
+    let x = ran_text c.eval_word.result c.in_ok-text.text (EndsFrom (ways g.O.Outside.goes g.O.Outside.loses) c.words.tree c.words.outside c.args.place (λ style. parts (seen_word c.word-item.result).parts [] []) c.eval_word.new.tree c.eval_word.new.outside) c.in_ok-text.ensures.text c.eval_word.ensures.runs in
     record {
-      leads = λ q style at V z r run. c.words.invariant.leads q style at _ _ _ (at_prog (ap (λ (ws : List WordRead). words ws c.words.words.items) item)
-          (Steps.word_goes style c.word-item.result _ c.words.words.items _ x.0 c.in_ok-text.text _ (ap (λ (w : WordRead). w.expand) c.word.view_is) x.2 x.3 c.in_ok-spread.ensures (x.1 q style (still_at c.args.tree.now c.words.tree c.args.place q style c.words.invariant.here at)) run));
+      leads = λ q style at V z r run. c.words.invariant.leads q style at _ _ _ (at_prog (ap (λ (ws : List PreparedWord). words (map seen_word ws) c.words.texts.items) item)
+          (Steps.word_goes style (seen_word c.word-item.result) _ c.words.texts.items _ x.0 c.in_ok-text.text _ c.expands.ensures x.2 x.3 c.in_ok-spread.ensures (x.1 q style (still_at c.args.tree.now c.words.tree c.args.place q style c.words.invariant.here at)) run));
       here = here-trans c.args.tree.now c.words.tree c.eval_word.new.tree c.args.place c.words.invariant.here (here_text c.eval_word.result c.in_ok-text.text c.words.tree c.eval_word.new.tree c.args.place c.in_ok-text.ensures.text c.eval_word.ensures.here);
       keeps = keeps-trans c.words.invariant.keeps c.eval_word.ensures.keeps;
     }
 
-pub evaluation::eval_command-returns-then-is_empty-clause-runs : goal.evaluation::eval_command-returns-then-is_empty-clause-runs
-evaluation::eval_command-returns-then-is_empty-clause-runs g t c = λ q style at.
-    let none = none_on c.deref-word-items.result.now c.words.word-index c.words-test.false in
-    let zero = zero_is (vec_len c.words.words) c.is_empty.result c.is_empty.ensures c.if-is_empty.true in
-    let empty : c.words.words.items ≡ [] = no_item c.words.words.items (omega (arith, zero, c.words.words.ok.0)) in
-    c.words.invariant.leads q style at _ _ _ (at_prog (ap (λ (ws : List WordRead). words ws c.words.words.items) none) (Steps.no_words style c.words.words.items empty (ap (λ (x : List ℕ). Completed (ok x)) c.empty.ensures)))
+pub words::call_many-call_texts-requires : goal.words::call_many-call_texts-requires
+words::call_many-call_texts-requires g t c κs within = (search rules, (search rules, still_running c.args.tree.now c.words.tree c.args.place c.words.invariant.here c.requires.running))
 
-pub evaluation::eval_command-returns-in_err-charge-clause-runs : goal.evaluation::eval_command-returns-in_err-charge-clause-runs
-evaluation::eval_command-returns-in_err-charge-clause-runs g t c =
-    let more = some_is (vec_len c.words.words) c.is_empty.result c.is_empty.ensures c.if-is_empty.false in
-    let some : 1 ≤ length c.words.words.items = omega (arith, more, c.words.words.ok.0) in
-    let none = none_on c.deref-word-items.result.now c.words.word-index c.words-test.false in
-    let p = err_from_is_err_and c.from_residual-in_err-charge.result c.from_residual-in_err-charge.ensures.1 in
-    says_err c.from_residual-in_err-charge.result c.in_err-charge.field-0.0 p.0 _ _ _ p.1 p.2 c.in_err-charge.ensures.refused
-    (λ e h q style at. c.words.invariant.leads q style at _ _ _ (at_prog (ap (λ (ws : List WordRead). words ws c.words.words.items) none)
-    (Steps.charged_stops style c.words.words.items some (h q (still_at c.args.tree.now c.words.tree c.args.place q style c.words.invariant.here at).names))))
+pub words::call_many-returns-clause-runs : goal.words::call_many-returns-clause-runs
+words::call_many-returns-clause-runs g t c =
+    let none = none_on c.args.words.now c.words.word-index c.words-test.false in
+    IfRan-more c.call_texts.result (EndsFrom (ways g.O.Outside.goes g.O.Outside.loses) c.words.tree c.words.outside c.args.place (λ style. words [] c.as_slice.result.now) c.call_texts.new.tree c.call_texts.new.outside)
+    (EndsFrom (ways g.O.Outside.goes g.O.Outside.loses) c.args.tree.now c.args.outside.now c.args.place (λ style. words (map seen_word c.args.words.now) []) c.call_texts.new.tree c.call_texts.new.outside) (λ e h q style at.
+    c.words.invariant.leads q style at _ _ _ (at_prog (ap (λ (ws : List PreparedWord). words (map seen_word ws) c.words.texts.items) none ∙ ap (words []) (sym c.as_slice.ensures.value))
+    (h q style (still_at c.args.tree.now c.words.tree c.args.place q style c.words.invariant.here at)))) c.call_texts.ensures.runs
 
-pub evaluation::eval_command-returns-clause-runs : goal.evaluation::eval_command-returns-clause-runs
-evaluation::eval_command-returns-clause-runs g t c =
-    let more = some_is (vec_len c.words.words) c.is_empty.result c.is_empty.ensures c.if-is_empty.false in
-    let some : 1 ≤ length c.words.words.items = omega (arith, more, c.words.words.ok.0) in
-    let none = none_on c.deref-word-items.result.now c.words.word-index c.words-test.false in
-    IfRan-more c.call.result (EndsFrom (ways g.O.Outside.goes g.O.Outside.loses) c.charge.new.tree c.charge.new.outside c.args.place (λ style. called style c.as_slice.result.now) c.call.new.tree c.call.new.outside)
-    (EndsFrom (ways g.O.Outside.goes g.O.Outside.loses) c.args.tree.now c.args.outside.now c.args.place (λ style. words c.args.command.now []) c.call.new.tree c.call.new.outside) (λ e h q style at.
-    let here = still_at c.args.tree.now c.words.tree c.args.place q style c.words.invariant.here at in
-    let counts = c.in_ok-charge.ensures.counted q here.names in
-    c.words.invariant.leads q style at _ _ _ (at_prog (ap (λ (ws : List WordRead). words ws c.words.words.items) none)
-    (Steps.charged_calls style c.words.words.items some counts (at_prog (ap (called style) (sym c.as_slice.ensures.value)) (h q style (still_at _ _ c.args.place q style (level_here _ _ c.args.place c.charge.ensures.level) here)))))) c.call.ensures.runs
+pub words::call_many-returns-clause-here : goal.words::call_many-returns-clause-here
+words::call_many-returns-clause-here g t c = here_then c.call_texts.result c.args.tree.now c.words.tree c.call_texts.new.tree c.args.place c.words.invariant.here c.call_texts.ensures.here
+
+pub words::call_many-returns-clause-keeps : goal.words::call_many-returns-clause-keeps
+words::call_many-returns-clause-keeps g t c = keeps-trans c.words.invariant.keeps c.call_texts.ensures.keeps
+
+-- two words
+
+pub words::call_two-returns-in_err-first_text-clause-runs : goal.words::call_two-returns-in_err-first_text-clause-runs
+words::call_two-returns-in_err-first_text-clause-runs g t c =
+    let is : map seen_word c.args.words.now ≡ seen_word c.first-item.result ∷ seen_word c.second-item.result ∷ [] = ap (map seen_word) (two_items c.args.words.now c.first-item.result c.second-item.result c.in-len2.len_at_least c.in-len2.len_below c.first-item.is c.second-item.is) in
+    let p = err_from_is_err_and c.from_residual.result c.from_residual.ensures.1 in
+    ran_err c.from_residual.result c.in_err-first_text.field-0.0 p.0 _ _ _ p.1 p.2
+    (stays_of c.eval_word.result c.in_err-first_text.field-0.0 (EndsFrom (ways g.O.Outside.goes g.O.Outside.loses) c.args.tree.now c.args.outside.now c.args.place (λ style. parts (seen_word c.first-item.result).parts [] []) c.eval_word.new.tree c.eval_word.new.outside) c.in_err-first_text.ensures.same c.eval_word.ensures.runs c.in_err-first_text.ensures.stays)
+    (λ e h q style at.
+    at_prog (ap (λ (ws : List WordRead). words ws []) is)
+    (Steps.word_stays style (seen_word c.first-item.result) _ [] e h.1 (h.0 q style at)))
+
+pub words::call_two-returns-in_err-first_text-clause-here : goal.words::call_two-returns-in_err-first_text-clause-here
+words::call_two-returns-in_err-first_text-clause-here g t c =
+    let p = err_from_is_err_and c.from_residual.result c.from_residual.ensures.1 in
+    here_passed c.from_residual.result c.eval_word.result c.in_err-first_text.field-0.0 p.0 c.args.tree.now c.args.tree.now c.eval_word.new.tree c.args.place p.1 p.2 c.in_err-first_text.ensures.same (here-refl c.args.tree.now c.args.place) c.eval_word.ensures.here
+
+pub words::call_two-eval_word-requires-2 : goal.words::call_two-eval_word-requires-2
+words::call_two-eval_word-requires-2 g t c κs within = (search rules, (search rules, still_running c.args.tree.now c.eval_word.new.tree c.args.place (here_text c.eval_word.result c.in_ok-first_text.first_text c.args.tree.now c.eval_word.new.tree c.args.place c.in_ok-first_text.ensures.text c.eval_word.ensures.here) c.requires.running))
+
+pub words::call_two-returns-in_err-second_text-clause-runs : goal.words::call_two-returns-in_err-second_text-clause-runs
+words::call_two-returns-in_err-second_text-clause-runs g t c =
+    let is : map seen_word c.args.words.now ≡ seen_word c.first-item.result ∷ seen_word c.second-item.result ∷ [] = ap (map seen_word) (two_items c.args.words.now c.first-item.result c.second-item.result c.in-len2.len_at_least c.in-len2.len_below c.first-item.is c.second-item.is) in
+    let single = subst AreSingle is c.requires.single in
+    let x1 = ran_text c.eval_word.result c.in_ok-first_text.first_text (EndsFrom (ways g.O.Outside.goes g.O.Outside.loses) c.args.tree.now c.args.outside.now c.args.place (λ style. parts (seen_word c.first-item.result).parts [] []) c.eval_word.new.tree c.eval_word.new.outside) c.in_ok-first_text.ensures.text c.eval_word.ensures.runs in
+    let p = err_from_is_err_and c.from_residual-in_err-second_text.result c.from_residual-in_err-second_text.ensures.1 in
+    ran_err c.from_residual-in_err-second_text.result c.in_err-second_text.field-0.0 p.0 _ _ _ p.1 p.2
+    (stays_of c.eval_word-2.result c.in_err-second_text.field-0.0 (EndsFrom (ways g.O.Outside.goes g.O.Outside.loses) c.eval_word.new.tree c.eval_word.new.outside c.args.place (λ style. parts (seen_word c.second-item.result).parts [] []) c.eval_word-2.new.tree c.eval_word-2.new.outside) c.in_err-second_text.ensures.same c.eval_word-2.ensures.runs c.in_err-second_text.ensures.stays)
+    (λ e h q style at.
+    let at1 = still_at c.args.tree.now c.eval_word.new.tree c.args.place q style (here_text c.eval_word.result c.in_ok-first_text.first_text c.args.tree.now c.eval_word.new.tree c.args.place c.in_ok-first_text.ensures.text c.eval_word.ensures.here) at in
+    at_prog (ap (λ (ws : List WordRead). words ws []) is)
+    (Steps.single_goes style (seen_word c.first-item.result) _ [] x1.0 c.in_ok-first_text.first_text single.0 x1.2 x1.3 (x1.1 q style at)
+    (Steps.word_stays style (seen_word c.second-item.result) _ (c.in_ok-first_text.first_text ∷ []) e h.1 (h.0 q style at1))))
+
+pub words::call_two-returns-in_err-second_text-clause-here : goal.words::call_two-returns-in_err-second_text-clause-here
+words::call_two-returns-in_err-second_text-clause-here g t c =
+    let p = err_from_is_err_and c.from_residual-in_err-second_text.result c.from_residual-in_err-second_text.ensures.1 in
+    here_passed c.from_residual-in_err-second_text.result c.eval_word-2.result c.in_err-second_text.field-0.0 p.0 c.args.tree.now c.eval_word.new.tree c.eval_word-2.new.tree c.args.place p.1 p.2 c.in_err-second_text.ensures.same (here_text c.eval_word.result c.in_ok-first_text.first_text c.args.tree.now c.eval_word.new.tree c.args.place c.in_ok-first_text.ensures.text c.eval_word.ensures.here) c.eval_word-2.ensures.here
+
+pub words::call_two-returns-in_err-second_text-clause-keeps : goal.words::call_two-returns-in_err-second_text-clause-keeps
+words::call_two-returns-in_err-second_text-clause-keeps g t c = keeps-trans c.eval_word.ensures.keeps c.eval_word-2.ensures.keeps
+
+pub words::call_two-call_texts-requires : goal.words::call_two-call_texts-requires
+words::call_two-call_texts-requires g t c κs within = (search rules, (search rules, still_running c.args.tree.now c.eval_word-2.new.tree c.args.place (here-trans c.args.tree.now c.eval_word.new.tree c.eval_word-2.new.tree c.args.place (here_text c.eval_word.result c.in_ok-first_text.first_text c.args.tree.now c.eval_word.new.tree c.args.place c.in_ok-first_text.ensures.text c.eval_word.ensures.here) (here_text c.eval_word-2.result c.in_ok-second_text.second_text c.eval_word.new.tree c.eval_word-2.new.tree c.args.place c.in_ok-second_text.ensures.text c.eval_word-2.ensures.here)) c.requires.running))
+
+pub words::call_two-returns-clause-runs : goal.words::call_two-returns-clause-runs
+words::call_two-returns-clause-runs g t c =
+    let is : map seen_word c.args.words.now ≡ seen_word c.first-item.result ∷ seen_word c.second-item.result ∷ [] = ap (map seen_word) (two_items c.args.words.now c.first-item.result c.second-item.result c.in-len2.len_at_least c.in-len2.len_below c.first-item.is c.second-item.is) in
+    let single = subst AreSingle is c.requires.single in
+    let x1 = ran_text c.eval_word.result c.in_ok-first_text.first_text (EndsFrom (ways g.O.Outside.goes g.O.Outside.loses) c.args.tree.now c.args.outside.now c.args.place (λ style. parts (seen_word c.first-item.result).parts [] []) c.eval_word.new.tree c.eval_word.new.outside) c.in_ok-first_text.ensures.text c.eval_word.ensures.runs in
+    let x2 = ran_text c.eval_word-2.result c.in_ok-second_text.second_text (EndsFrom (ways g.O.Outside.goes g.O.Outside.loses) c.eval_word.new.tree c.eval_word.new.outside c.args.place (λ style. parts (seen_word c.second-item.result).parts [] []) c.eval_word-2.new.tree c.eval_word-2.new.outside) c.in_ok-second_text.ensures.text c.eval_word-2.ensures.runs in
+    IfRan-more c.call_texts.result (EndsFrom (ways g.O.Outside.goes g.O.Outside.loses) c.eval_word-2.new.tree c.eval_word-2.new.outside c.args.place (λ style. words [] (c.in_ok-first_text.first_text ∷ c.in_ok-second_text.second_text ∷ [])) c.call_texts.new.tree c.call_texts.new.outside)
+    (EndsFrom (ways g.O.Outside.goes g.O.Outside.loses) c.args.tree.now c.args.outside.now c.args.place (λ style. words (map seen_word c.args.words.now) []) c.call_texts.new.tree c.call_texts.new.outside) (λ e h q style at.
+    let at1 = still_at c.args.tree.now c.eval_word.new.tree c.args.place q style (here_text c.eval_word.result c.in_ok-first_text.first_text c.args.tree.now c.eval_word.new.tree c.args.place c.in_ok-first_text.ensures.text c.eval_word.ensures.here) at in
+    let at2 = still_at c.eval_word.new.tree c.eval_word-2.new.tree c.args.place q style (here_text c.eval_word-2.result c.in_ok-second_text.second_text c.eval_word.new.tree c.eval_word-2.new.tree c.args.place c.in_ok-second_text.ensures.text c.eval_word-2.ensures.here) at1 in
+    at_prog (ap (λ (ws : List WordRead). words ws []) is)
+    (Steps.single_goes style (seen_word c.first-item.result) _ [] x1.0 c.in_ok-first_text.first_text single.0 x1.2 x1.3 (x1.1 q style at)
+    (Steps.single_goes style (seen_word c.second-item.result) _ (c.in_ok-first_text.first_text ∷ []) x2.0 c.in_ok-second_text.second_text single.1.0 x2.2 x2.3 (x2.1 q style at1)
+    (h q style at2)))) c.call_texts.ensures.runs
+
+pub words::call_two-returns-clause-here : goal.words::call_two-returns-clause-here
+words::call_two-returns-clause-here g t c = here_then c.call_texts.result c.args.tree.now c.eval_word-2.new.tree c.call_texts.new.tree c.args.place (here-trans c.args.tree.now c.eval_word.new.tree c.eval_word-2.new.tree c.args.place (here_text c.eval_word.result c.in_ok-first_text.first_text c.args.tree.now c.eval_word.new.tree c.args.place c.in_ok-first_text.ensures.text c.eval_word.ensures.here) (here_text c.eval_word-2.result c.in_ok-second_text.second_text c.eval_word.new.tree c.eval_word-2.new.tree c.args.place c.in_ok-second_text.ensures.text c.eval_word-2.ensures.here)) c.call_texts.ensures.here
+
+pub words::call_two-returns-clause-keeps : goal.words::call_two-returns-clause-keeps
+words::call_two-returns-clause-keeps g t c = keeps-trans (keeps-trans c.eval_word.ensures.keeps c.eval_word-2.ensures.keeps) c.call_texts.ensures.keeps
+
+-- three words
+
+pub words::call_three-returns-in_err-first_text-clause-runs : goal.words::call_three-returns-in_err-first_text-clause-runs
+words::call_three-returns-in_err-first_text-clause-runs g t c =
+    let is : map seen_word c.args.words.now ≡ seen_word c.first-item.result ∷ seen_word c.second-item.result ∷ seen_word c.third-item.result ∷ [] = ap (map seen_word) (three_items c.args.words.now c.first-item.result c.second-item.result c.third-item.result c.in-len3.len_at_least c.in-len3.len_below c.first-item.is c.second-item.is c.third-item.is) in
+    let p = err_from_is_err_and c.from_residual.result c.from_residual.ensures.1 in
+    ran_err c.from_residual.result c.in_err-first_text.field-0.0 p.0 _ _ _ p.1 p.2
+    (stays_of c.eval_word.result c.in_err-first_text.field-0.0 (EndsFrom (ways g.O.Outside.goes g.O.Outside.loses) c.args.tree.now c.args.outside.now c.args.place (λ style. parts (seen_word c.first-item.result).parts [] []) c.eval_word.new.tree c.eval_word.new.outside) c.in_err-first_text.ensures.same c.eval_word.ensures.runs c.in_err-first_text.ensures.stays)
+    (λ e h q style at.
+    at_prog (ap (λ (ws : List WordRead). words ws []) is)
+    (Steps.word_stays style (seen_word c.first-item.result) _ [] e h.1 (h.0 q style at)))
+
+pub words::call_three-returns-in_err-first_text-clause-here : goal.words::call_three-returns-in_err-first_text-clause-here
+words::call_three-returns-in_err-first_text-clause-here g t c =
+    let p = err_from_is_err_and c.from_residual.result c.from_residual.ensures.1 in
+    here_passed c.from_residual.result c.eval_word.result c.in_err-first_text.field-0.0 p.0 c.args.tree.now c.args.tree.now c.eval_word.new.tree c.args.place p.1 p.2 c.in_err-first_text.ensures.same (here-refl c.args.tree.now c.args.place) c.eval_word.ensures.here
+
+pub words::call_three-eval_word-requires-2 : goal.words::call_three-eval_word-requires-2
+words::call_three-eval_word-requires-2 g t c κs within = (search rules, (search rules, still_running c.args.tree.now c.eval_word.new.tree c.args.place (here_text c.eval_word.result c.in_ok-first_text.first_text c.args.tree.now c.eval_word.new.tree c.args.place c.in_ok-first_text.ensures.text c.eval_word.ensures.here) c.requires.running))
+
+pub words::call_three-returns-in_err-second_text-clause-runs : goal.words::call_three-returns-in_err-second_text-clause-runs
+words::call_three-returns-in_err-second_text-clause-runs g t c =
+    let is : map seen_word c.args.words.now ≡ seen_word c.first-item.result ∷ seen_word c.second-item.result ∷ seen_word c.third-item.result ∷ [] = ap (map seen_word) (three_items c.args.words.now c.first-item.result c.second-item.result c.third-item.result c.in-len3.len_at_least c.in-len3.len_below c.first-item.is c.second-item.is c.third-item.is) in
+    let single = subst AreSingle is c.requires.single in
+    let x1 = ran_text c.eval_word.result c.in_ok-first_text.first_text (EndsFrom (ways g.O.Outside.goes g.O.Outside.loses) c.args.tree.now c.args.outside.now c.args.place (λ style. parts (seen_word c.first-item.result).parts [] []) c.eval_word.new.tree c.eval_word.new.outside) c.in_ok-first_text.ensures.text c.eval_word.ensures.runs in
+    let p = err_from_is_err_and c.from_residual-in_err-second_text.result c.from_residual-in_err-second_text.ensures.1 in
+    ran_err c.from_residual-in_err-second_text.result c.in_err-second_text.field-0.0 p.0 _ _ _ p.1 p.2
+    (stays_of c.eval_word-2.result c.in_err-second_text.field-0.0 (EndsFrom (ways g.O.Outside.goes g.O.Outside.loses) c.eval_word.new.tree c.eval_word.new.outside c.args.place (λ style. parts (seen_word c.second-item.result).parts [] []) c.eval_word-2.new.tree c.eval_word-2.new.outside) c.in_err-second_text.ensures.same c.eval_word-2.ensures.runs c.in_err-second_text.ensures.stays)
+    (λ e h q style at.
+    let at1 = still_at c.args.tree.now c.eval_word.new.tree c.args.place q style (here_text c.eval_word.result c.in_ok-first_text.first_text c.args.tree.now c.eval_word.new.tree c.args.place c.in_ok-first_text.ensures.text c.eval_word.ensures.here) at in
+    at_prog (ap (λ (ws : List WordRead). words ws []) is)
+    (Steps.single_goes style (seen_word c.first-item.result) _ [] x1.0 c.in_ok-first_text.first_text single.0 x1.2 x1.3 (x1.1 q style at)
+    (Steps.word_stays style (seen_word c.second-item.result) _ (c.in_ok-first_text.first_text ∷ []) e h.1 (h.0 q style at1))))
+
+pub words::call_three-returns-in_err-second_text-clause-here : goal.words::call_three-returns-in_err-second_text-clause-here
+words::call_three-returns-in_err-second_text-clause-here g t c =
+    let p = err_from_is_err_and c.from_residual-in_err-second_text.result c.from_residual-in_err-second_text.ensures.1 in
+    here_passed c.from_residual-in_err-second_text.result c.eval_word-2.result c.in_err-second_text.field-0.0 p.0 c.args.tree.now c.eval_word.new.tree c.eval_word-2.new.tree c.args.place p.1 p.2 c.in_err-second_text.ensures.same (here_text c.eval_word.result c.in_ok-first_text.first_text c.args.tree.now c.eval_word.new.tree c.args.place c.in_ok-first_text.ensures.text c.eval_word.ensures.here) c.eval_word-2.ensures.here
+
+pub words::call_three-returns-in_err-second_text-clause-keeps : goal.words::call_three-returns-in_err-second_text-clause-keeps
+words::call_three-returns-in_err-second_text-clause-keeps g t c = keeps-trans c.eval_word.ensures.keeps c.eval_word-2.ensures.keeps
+
+pub words::call_three-eval_word-requires-3 : goal.words::call_three-eval_word-requires-3
+words::call_three-eval_word-requires-3 g t c κs within = (search rules, (search rules, still_running c.args.tree.now c.eval_word-2.new.tree c.args.place (here-trans c.args.tree.now c.eval_word.new.tree c.eval_word-2.new.tree c.args.place (here_text c.eval_word.result c.in_ok-first_text.first_text c.args.tree.now c.eval_word.new.tree c.args.place c.in_ok-first_text.ensures.text c.eval_word.ensures.here) (here_text c.eval_word-2.result c.in_ok-second_text.second_text c.eval_word.new.tree c.eval_word-2.new.tree c.args.place c.in_ok-second_text.ensures.text c.eval_word-2.ensures.here)) c.requires.running))
+
+pub words::call_three-returns-in_err-third_text-clause-runs : goal.words::call_three-returns-in_err-third_text-clause-runs
+words::call_three-returns-in_err-third_text-clause-runs g t c =
+    let is : map seen_word c.args.words.now ≡ seen_word c.first-item.result ∷ seen_word c.second-item.result ∷ seen_word c.third-item.result ∷ [] = ap (map seen_word) (three_items c.args.words.now c.first-item.result c.second-item.result c.third-item.result c.in-len3.len_at_least c.in-len3.len_below c.first-item.is c.second-item.is c.third-item.is) in
+    let single = subst AreSingle is c.requires.single in
+    let x1 = ran_text c.eval_word.result c.in_ok-first_text.first_text (EndsFrom (ways g.O.Outside.goes g.O.Outside.loses) c.args.tree.now c.args.outside.now c.args.place (λ style. parts (seen_word c.first-item.result).parts [] []) c.eval_word.new.tree c.eval_word.new.outside) c.in_ok-first_text.ensures.text c.eval_word.ensures.runs in
+    let x2 = ran_text c.eval_word-2.result c.in_ok-second_text.second_text (EndsFrom (ways g.O.Outside.goes g.O.Outside.loses) c.eval_word.new.tree c.eval_word.new.outside c.args.place (λ style. parts (seen_word c.second-item.result).parts [] []) c.eval_word-2.new.tree c.eval_word-2.new.outside) c.in_ok-second_text.ensures.text c.eval_word-2.ensures.runs in
+    let p = err_from_is_err_and c.from_residual-in_err-third_text.result c.from_residual-in_err-third_text.ensures.1 in
+    ran_err c.from_residual-in_err-third_text.result c.in_err-third_text.field-0.0 p.0 _ _ _ p.1 p.2
+    (stays_of c.eval_word-3.result c.in_err-third_text.field-0.0 (EndsFrom (ways g.O.Outside.goes g.O.Outside.loses) c.eval_word-2.new.tree c.eval_word-2.new.outside c.args.place (λ style. parts (seen_word c.third-item.result).parts [] []) c.eval_word-3.new.tree c.eval_word-3.new.outside) c.in_err-third_text.ensures.same c.eval_word-3.ensures.runs c.in_err-third_text.ensures.stays)
+    (λ e h q style at.
+    let at1 = still_at c.args.tree.now c.eval_word.new.tree c.args.place q style (here_text c.eval_word.result c.in_ok-first_text.first_text c.args.tree.now c.eval_word.new.tree c.args.place c.in_ok-first_text.ensures.text c.eval_word.ensures.here) at in
+    let at2 = still_at c.eval_word.new.tree c.eval_word-2.new.tree c.args.place q style (here_text c.eval_word-2.result c.in_ok-second_text.second_text c.eval_word.new.tree c.eval_word-2.new.tree c.args.place c.in_ok-second_text.ensures.text c.eval_word-2.ensures.here) at1 in
+    at_prog (ap (λ (ws : List WordRead). words ws []) is)
+    (Steps.single_goes style (seen_word c.first-item.result) _ [] x1.0 c.in_ok-first_text.first_text single.0 x1.2 x1.3 (x1.1 q style at)
+    (Steps.single_goes style (seen_word c.second-item.result) _ (c.in_ok-first_text.first_text ∷ []) x2.0 c.in_ok-second_text.second_text single.1.0 x2.2 x2.3 (x2.1 q style at1)
+    (Steps.word_stays style (seen_word c.third-item.result) _ (c.in_ok-first_text.first_text ∷ c.in_ok-second_text.second_text ∷ []) e h.1 (h.0 q style at2)))))
+
+pub words::call_three-returns-in_err-third_text-clause-here : goal.words::call_three-returns-in_err-third_text-clause-here
+words::call_three-returns-in_err-third_text-clause-here g t c =
+    let p = err_from_is_err_and c.from_residual-in_err-third_text.result c.from_residual-in_err-third_text.ensures.1 in
+    here_passed c.from_residual-in_err-third_text.result c.eval_word-3.result c.in_err-third_text.field-0.0 p.0 c.args.tree.now c.eval_word-2.new.tree c.eval_word-3.new.tree c.args.place p.1 p.2 c.in_err-third_text.ensures.same (here-trans c.args.tree.now c.eval_word.new.tree c.eval_word-2.new.tree c.args.place (here_text c.eval_word.result c.in_ok-first_text.first_text c.args.tree.now c.eval_word.new.tree c.args.place c.in_ok-first_text.ensures.text c.eval_word.ensures.here) (here_text c.eval_word-2.result c.in_ok-second_text.second_text c.eval_word.new.tree c.eval_word-2.new.tree c.args.place c.in_ok-second_text.ensures.text c.eval_word-2.ensures.here)) c.eval_word-3.ensures.here
+
+pub words::call_three-returns-in_err-third_text-clause-keeps : goal.words::call_three-returns-in_err-third_text-clause-keeps
+words::call_three-returns-in_err-third_text-clause-keeps g t c = keeps-trans (keeps-trans c.eval_word.ensures.keeps c.eval_word-2.ensures.keeps) c.eval_word-3.ensures.keeps
+
+pub words::call_three-call_texts-requires : goal.words::call_three-call_texts-requires
+words::call_three-call_texts-requires g t c κs within = (search rules, (search rules, still_running c.args.tree.now c.eval_word-3.new.tree c.args.place (here-trans c.args.tree.now c.eval_word-2.new.tree c.eval_word-3.new.tree c.args.place (here-trans c.args.tree.now c.eval_word.new.tree c.eval_word-2.new.tree c.args.place (here_text c.eval_word.result c.in_ok-first_text.first_text c.args.tree.now c.eval_word.new.tree c.args.place c.in_ok-first_text.ensures.text c.eval_word.ensures.here) (here_text c.eval_word-2.result c.in_ok-second_text.second_text c.eval_word.new.tree c.eval_word-2.new.tree c.args.place c.in_ok-second_text.ensures.text c.eval_word-2.ensures.here)) (here_text c.eval_word-3.result c.in_ok-third_text.third_text c.eval_word-2.new.tree c.eval_word-3.new.tree c.args.place c.in_ok-third_text.ensures.text c.eval_word-3.ensures.here)) c.requires.running))
+
+pub words::call_three-returns-clause-runs : goal.words::call_three-returns-clause-runs
+words::call_three-returns-clause-runs g t c =
+    let is : map seen_word c.args.words.now ≡ seen_word c.first-item.result ∷ seen_word c.second-item.result ∷ seen_word c.third-item.result ∷ [] = ap (map seen_word) (three_items c.args.words.now c.first-item.result c.second-item.result c.third-item.result c.in-len3.len_at_least c.in-len3.len_below c.first-item.is c.second-item.is c.third-item.is) in
+    let single = subst AreSingle is c.requires.single in
+    let x1 = ran_text c.eval_word.result c.in_ok-first_text.first_text (EndsFrom (ways g.O.Outside.goes g.O.Outside.loses) c.args.tree.now c.args.outside.now c.args.place (λ style. parts (seen_word c.first-item.result).parts [] []) c.eval_word.new.tree c.eval_word.new.outside) c.in_ok-first_text.ensures.text c.eval_word.ensures.runs in
+    let x2 = ran_text c.eval_word-2.result c.in_ok-second_text.second_text (EndsFrom (ways g.O.Outside.goes g.O.Outside.loses) c.eval_word.new.tree c.eval_word.new.outside c.args.place (λ style. parts (seen_word c.second-item.result).parts [] []) c.eval_word-2.new.tree c.eval_word-2.new.outside) c.in_ok-second_text.ensures.text c.eval_word-2.ensures.runs in
+    let x3 = ran_text c.eval_word-3.result c.in_ok-third_text.third_text (EndsFrom (ways g.O.Outside.goes g.O.Outside.loses) c.eval_word-2.new.tree c.eval_word-2.new.outside c.args.place (λ style. parts (seen_word c.third-item.result).parts [] []) c.eval_word-3.new.tree c.eval_word-3.new.outside) c.in_ok-third_text.ensures.text c.eval_word-3.ensures.runs in
+    IfRan-more c.call_texts.result (EndsFrom (ways g.O.Outside.goes g.O.Outside.loses) c.eval_word-3.new.tree c.eval_word-3.new.outside c.args.place (λ style. words [] (c.in_ok-first_text.first_text ∷ c.in_ok-second_text.second_text ∷ c.in_ok-third_text.third_text ∷ [])) c.call_texts.new.tree c.call_texts.new.outside)
+    (EndsFrom (ways g.O.Outside.goes g.O.Outside.loses) c.args.tree.now c.args.outside.now c.args.place (λ style. words (map seen_word c.args.words.now) []) c.call_texts.new.tree c.call_texts.new.outside) (λ e h q style at.
+    let at1 = still_at c.args.tree.now c.eval_word.new.tree c.args.place q style (here_text c.eval_word.result c.in_ok-first_text.first_text c.args.tree.now c.eval_word.new.tree c.args.place c.in_ok-first_text.ensures.text c.eval_word.ensures.here) at in
+    let at2 = still_at c.eval_word.new.tree c.eval_word-2.new.tree c.args.place q style (here_text c.eval_word-2.result c.in_ok-second_text.second_text c.eval_word.new.tree c.eval_word-2.new.tree c.args.place c.in_ok-second_text.ensures.text c.eval_word-2.ensures.here) at1 in
+    let at3 = still_at c.eval_word-2.new.tree c.eval_word-3.new.tree c.args.place q style (here_text c.eval_word-3.result c.in_ok-third_text.third_text c.eval_word-2.new.tree c.eval_word-3.new.tree c.args.place c.in_ok-third_text.ensures.text c.eval_word-3.ensures.here) at2 in
+    at_prog (ap (λ (ws : List WordRead). words ws []) is)
+    (Steps.single_goes style (seen_word c.first-item.result) _ [] x1.0 c.in_ok-first_text.first_text single.0 x1.2 x1.3 (x1.1 q style at)
+    (Steps.single_goes style (seen_word c.second-item.result) _ (c.in_ok-first_text.first_text ∷ []) x2.0 c.in_ok-second_text.second_text single.1.0 x2.2 x2.3 (x2.1 q style at1)
+    (Steps.single_goes style (seen_word c.third-item.result) _ (c.in_ok-first_text.first_text ∷ c.in_ok-second_text.second_text ∷ []) x3.0 c.in_ok-third_text.third_text single.1.1.0 x3.2 x3.3 (x3.1 q style at2)
+    (h q style at3))))) c.call_texts.ensures.runs
+
+pub words::call_three-returns-clause-here : goal.words::call_three-returns-clause-here
+words::call_three-returns-clause-here g t c = here_then c.call_texts.result c.args.tree.now c.eval_word-3.new.tree c.call_texts.new.tree c.args.place (here-trans c.args.tree.now c.eval_word-2.new.tree c.eval_word-3.new.tree c.args.place (here-trans c.args.tree.now c.eval_word.new.tree c.eval_word-2.new.tree c.args.place (here_text c.eval_word.result c.in_ok-first_text.first_text c.args.tree.now c.eval_word.new.tree c.args.place c.in_ok-first_text.ensures.text c.eval_word.ensures.here) (here_text c.eval_word-2.result c.in_ok-second_text.second_text c.eval_word.new.tree c.eval_word-2.new.tree c.args.place c.in_ok-second_text.ensures.text c.eval_word-2.ensures.here)) (here_text c.eval_word-3.result c.in_ok-third_text.third_text c.eval_word-2.new.tree c.eval_word-3.new.tree c.args.place c.in_ok-third_text.ensures.text c.eval_word-3.ensures.here)) c.call_texts.ensures.here
+
+pub words::call_three-returns-clause-keeps : goal.words::call_three-returns-clause-keeps
+words::call_three-returns-clause-keeps g t c = keeps-trans (keeps-trans (keeps-trans c.eval_word.ensures.keeps c.eval_word-2.ensures.keeps) c.eval_word-3.ensures.keeps) c.call_texts.ensures.keeps
+
+-- four words
+
+pub words::call_four-returns-in_err-first_text-clause-runs : goal.words::call_four-returns-in_err-first_text-clause-runs
+words::call_four-returns-in_err-first_text-clause-runs g t c =
+    let is : map seen_word c.args.words.now ≡ seen_word c.first-item.result ∷ seen_word c.second-item.result ∷ seen_word c.third-item.result ∷ seen_word c.fourth-item.result ∷ [] = ap (map seen_word) (four_items c.args.words.now c.first-item.result c.second-item.result c.third-item.result c.fourth-item.result c.in-len4.len_at_least c.in-len4.len_below c.first-item.is c.second-item.is c.third-item.is c.fourth-item.is) in
+    let p = err_from_is_err_and c.from_residual.result c.from_residual.ensures.1 in
+    ran_err c.from_residual.result c.in_err-first_text.field-0.0 p.0 _ _ _ p.1 p.2
+    (stays_of c.eval_word.result c.in_err-first_text.field-0.0 (EndsFrom (ways g.O.Outside.goes g.O.Outside.loses) c.args.tree.now c.args.outside.now c.args.place (λ style. parts (seen_word c.first-item.result).parts [] []) c.eval_word.new.tree c.eval_word.new.outside) c.in_err-first_text.ensures.same c.eval_word.ensures.runs c.in_err-first_text.ensures.stays)
+    (λ e h q style at.
+    at_prog (ap (λ (ws : List WordRead). words ws []) is)
+    (Steps.word_stays style (seen_word c.first-item.result) _ [] e h.1 (h.0 q style at)))
+
+pub words::call_four-returns-in_err-first_text-clause-here : goal.words::call_four-returns-in_err-first_text-clause-here
+words::call_four-returns-in_err-first_text-clause-here g t c =
+    let p = err_from_is_err_and c.from_residual.result c.from_residual.ensures.1 in
+    here_passed c.from_residual.result c.eval_word.result c.in_err-first_text.field-0.0 p.0 c.args.tree.now c.args.tree.now c.eval_word.new.tree c.args.place p.1 p.2 c.in_err-first_text.ensures.same (here-refl c.args.tree.now c.args.place) c.eval_word.ensures.here
+
+pub words::call_four-eval_word-requires-2 : goal.words::call_four-eval_word-requires-2
+words::call_four-eval_word-requires-2 g t c κs within = (search rules, (search rules, still_running c.args.tree.now c.eval_word.new.tree c.args.place (here_text c.eval_word.result c.in_ok-first_text.first_text c.args.tree.now c.eval_word.new.tree c.args.place c.in_ok-first_text.ensures.text c.eval_word.ensures.here) c.requires.running))
+
+pub words::call_four-returns-in_err-second_text-clause-runs : goal.words::call_four-returns-in_err-second_text-clause-runs
+words::call_four-returns-in_err-second_text-clause-runs g t c =
+    let is : map seen_word c.args.words.now ≡ seen_word c.first-item.result ∷ seen_word c.second-item.result ∷ seen_word c.third-item.result ∷ seen_word c.fourth-item.result ∷ [] = ap (map seen_word) (four_items c.args.words.now c.first-item.result c.second-item.result c.third-item.result c.fourth-item.result c.in-len4.len_at_least c.in-len4.len_below c.first-item.is c.second-item.is c.third-item.is c.fourth-item.is) in
+    let single = subst AreSingle is c.requires.single in
+    let x1 = ran_text c.eval_word.result c.in_ok-first_text.first_text (EndsFrom (ways g.O.Outside.goes g.O.Outside.loses) c.args.tree.now c.args.outside.now c.args.place (λ style. parts (seen_word c.first-item.result).parts [] []) c.eval_word.new.tree c.eval_word.new.outside) c.in_ok-first_text.ensures.text c.eval_word.ensures.runs in
+    let p = err_from_is_err_and c.from_residual-in_err-second_text.result c.from_residual-in_err-second_text.ensures.1 in
+    ran_err c.from_residual-in_err-second_text.result c.in_err-second_text.field-0.0 p.0 _ _ _ p.1 p.2
+    (stays_of c.eval_word-2.result c.in_err-second_text.field-0.0 (EndsFrom (ways g.O.Outside.goes g.O.Outside.loses) c.eval_word.new.tree c.eval_word.new.outside c.args.place (λ style. parts (seen_word c.second-item.result).parts [] []) c.eval_word-2.new.tree c.eval_word-2.new.outside) c.in_err-second_text.ensures.same c.eval_word-2.ensures.runs c.in_err-second_text.ensures.stays)
+    (λ e h q style at.
+    let at1 = still_at c.args.tree.now c.eval_word.new.tree c.args.place q style (here_text c.eval_word.result c.in_ok-first_text.first_text c.args.tree.now c.eval_word.new.tree c.args.place c.in_ok-first_text.ensures.text c.eval_word.ensures.here) at in
+    at_prog (ap (λ (ws : List WordRead). words ws []) is)
+    (Steps.single_goes style (seen_word c.first-item.result) _ [] x1.0 c.in_ok-first_text.first_text single.0 x1.2 x1.3 (x1.1 q style at)
+    (Steps.word_stays style (seen_word c.second-item.result) _ (c.in_ok-first_text.first_text ∷ []) e h.1 (h.0 q style at1))))
+
+pub words::call_four-returns-in_err-second_text-clause-here : goal.words::call_four-returns-in_err-second_text-clause-here
+words::call_four-returns-in_err-second_text-clause-here g t c =
+    let p = err_from_is_err_and c.from_residual-in_err-second_text.result c.from_residual-in_err-second_text.ensures.1 in
+    here_passed c.from_residual-in_err-second_text.result c.eval_word-2.result c.in_err-second_text.field-0.0 p.0 c.args.tree.now c.eval_word.new.tree c.eval_word-2.new.tree c.args.place p.1 p.2 c.in_err-second_text.ensures.same (here_text c.eval_word.result c.in_ok-first_text.first_text c.args.tree.now c.eval_word.new.tree c.args.place c.in_ok-first_text.ensures.text c.eval_word.ensures.here) c.eval_word-2.ensures.here
+
+pub words::call_four-returns-in_err-second_text-clause-keeps : goal.words::call_four-returns-in_err-second_text-clause-keeps
+words::call_four-returns-in_err-second_text-clause-keeps g t c = keeps-trans c.eval_word.ensures.keeps c.eval_word-2.ensures.keeps
+
+pub words::call_four-eval_word-requires-3 : goal.words::call_four-eval_word-requires-3
+words::call_four-eval_word-requires-3 g t c κs within = (search rules, (search rules, still_running c.args.tree.now c.eval_word-2.new.tree c.args.place (here-trans c.args.tree.now c.eval_word.new.tree c.eval_word-2.new.tree c.args.place (here_text c.eval_word.result c.in_ok-first_text.first_text c.args.tree.now c.eval_word.new.tree c.args.place c.in_ok-first_text.ensures.text c.eval_word.ensures.here) (here_text c.eval_word-2.result c.in_ok-second_text.second_text c.eval_word.new.tree c.eval_word-2.new.tree c.args.place c.in_ok-second_text.ensures.text c.eval_word-2.ensures.here)) c.requires.running))
+
+pub words::call_four-returns-in_err-third_text-clause-runs : goal.words::call_four-returns-in_err-third_text-clause-runs
+words::call_four-returns-in_err-third_text-clause-runs g t c =
+    let is : map seen_word c.args.words.now ≡ seen_word c.first-item.result ∷ seen_word c.second-item.result ∷ seen_word c.third-item.result ∷ seen_word c.fourth-item.result ∷ [] = ap (map seen_word) (four_items c.args.words.now c.first-item.result c.second-item.result c.third-item.result c.fourth-item.result c.in-len4.len_at_least c.in-len4.len_below c.first-item.is c.second-item.is c.third-item.is c.fourth-item.is) in
+    let single = subst AreSingle is c.requires.single in
+    let x1 = ran_text c.eval_word.result c.in_ok-first_text.first_text (EndsFrom (ways g.O.Outside.goes g.O.Outside.loses) c.args.tree.now c.args.outside.now c.args.place (λ style. parts (seen_word c.first-item.result).parts [] []) c.eval_word.new.tree c.eval_word.new.outside) c.in_ok-first_text.ensures.text c.eval_word.ensures.runs in
+    let x2 = ran_text c.eval_word-2.result c.in_ok-second_text.second_text (EndsFrom (ways g.O.Outside.goes g.O.Outside.loses) c.eval_word.new.tree c.eval_word.new.outside c.args.place (λ style. parts (seen_word c.second-item.result).parts [] []) c.eval_word-2.new.tree c.eval_word-2.new.outside) c.in_ok-second_text.ensures.text c.eval_word-2.ensures.runs in
+    let p = err_from_is_err_and c.from_residual-in_err-third_text.result c.from_residual-in_err-third_text.ensures.1 in
+    ran_err c.from_residual-in_err-third_text.result c.in_err-third_text.field-0.0 p.0 _ _ _ p.1 p.2
+    (stays_of c.eval_word-3.result c.in_err-third_text.field-0.0 (EndsFrom (ways g.O.Outside.goes g.O.Outside.loses) c.eval_word-2.new.tree c.eval_word-2.new.outside c.args.place (λ style. parts (seen_word c.third-item.result).parts [] []) c.eval_word-3.new.tree c.eval_word-3.new.outside) c.in_err-third_text.ensures.same c.eval_word-3.ensures.runs c.in_err-third_text.ensures.stays)
+    (λ e h q style at.
+    let at1 = still_at c.args.tree.now c.eval_word.new.tree c.args.place q style (here_text c.eval_word.result c.in_ok-first_text.first_text c.args.tree.now c.eval_word.new.tree c.args.place c.in_ok-first_text.ensures.text c.eval_word.ensures.here) at in
+    let at2 = still_at c.eval_word.new.tree c.eval_word-2.new.tree c.args.place q style (here_text c.eval_word-2.result c.in_ok-second_text.second_text c.eval_word.new.tree c.eval_word-2.new.tree c.args.place c.in_ok-second_text.ensures.text c.eval_word-2.ensures.here) at1 in
+    at_prog (ap (λ (ws : List WordRead). words ws []) is)
+    (Steps.single_goes style (seen_word c.first-item.result) _ [] x1.0 c.in_ok-first_text.first_text single.0 x1.2 x1.3 (x1.1 q style at)
+    (Steps.single_goes style (seen_word c.second-item.result) _ (c.in_ok-first_text.first_text ∷ []) x2.0 c.in_ok-second_text.second_text single.1.0 x2.2 x2.3 (x2.1 q style at1)
+    (Steps.word_stays style (seen_word c.third-item.result) _ (c.in_ok-first_text.first_text ∷ c.in_ok-second_text.second_text ∷ []) e h.1 (h.0 q style at2)))))
+
+pub words::call_four-returns-in_err-third_text-clause-here : goal.words::call_four-returns-in_err-third_text-clause-here
+words::call_four-returns-in_err-third_text-clause-here g t c =
+    let p = err_from_is_err_and c.from_residual-in_err-third_text.result c.from_residual-in_err-third_text.ensures.1 in
+    here_passed c.from_residual-in_err-third_text.result c.eval_word-3.result c.in_err-third_text.field-0.0 p.0 c.args.tree.now c.eval_word-2.new.tree c.eval_word-3.new.tree c.args.place p.1 p.2 c.in_err-third_text.ensures.same (here-trans c.args.tree.now c.eval_word.new.tree c.eval_word-2.new.tree c.args.place (here_text c.eval_word.result c.in_ok-first_text.first_text c.args.tree.now c.eval_word.new.tree c.args.place c.in_ok-first_text.ensures.text c.eval_word.ensures.here) (here_text c.eval_word-2.result c.in_ok-second_text.second_text c.eval_word.new.tree c.eval_word-2.new.tree c.args.place c.in_ok-second_text.ensures.text c.eval_word-2.ensures.here)) c.eval_word-3.ensures.here
+
+pub words::call_four-returns-in_err-third_text-clause-keeps : goal.words::call_four-returns-in_err-third_text-clause-keeps
+words::call_four-returns-in_err-third_text-clause-keeps g t c = keeps-trans (keeps-trans c.eval_word.ensures.keeps c.eval_word-2.ensures.keeps) c.eval_word-3.ensures.keeps
+
+pub words::call_four-eval_word-requires-4 : goal.words::call_four-eval_word-requires-4
+words::call_four-eval_word-requires-4 g t c κs within = (search rules, (search rules, still_running c.args.tree.now c.eval_word-3.new.tree c.args.place (here-trans c.args.tree.now c.eval_word-2.new.tree c.eval_word-3.new.tree c.args.place (here-trans c.args.tree.now c.eval_word.new.tree c.eval_word-2.new.tree c.args.place (here_text c.eval_word.result c.in_ok-first_text.first_text c.args.tree.now c.eval_word.new.tree c.args.place c.in_ok-first_text.ensures.text c.eval_word.ensures.here) (here_text c.eval_word-2.result c.in_ok-second_text.second_text c.eval_word.new.tree c.eval_word-2.new.tree c.args.place c.in_ok-second_text.ensures.text c.eval_word-2.ensures.here)) (here_text c.eval_word-3.result c.in_ok-third_text.third_text c.eval_word-2.new.tree c.eval_word-3.new.tree c.args.place c.in_ok-third_text.ensures.text c.eval_word-3.ensures.here)) c.requires.running))
+
+pub words::call_four-returns-in_err-fourth_text-clause-runs : goal.words::call_four-returns-in_err-fourth_text-clause-runs
+words::call_four-returns-in_err-fourth_text-clause-runs g t c =
+    let is : map seen_word c.args.words.now ≡ seen_word c.first-item.result ∷ seen_word c.second-item.result ∷ seen_word c.third-item.result ∷ seen_word c.fourth-item.result ∷ [] = ap (map seen_word) (four_items c.args.words.now c.first-item.result c.second-item.result c.third-item.result c.fourth-item.result c.in-len4.len_at_least c.in-len4.len_below c.first-item.is c.second-item.is c.third-item.is c.fourth-item.is) in
+    let single = subst AreSingle is c.requires.single in
+    let x1 = ran_text c.eval_word.result c.in_ok-first_text.first_text (EndsFrom (ways g.O.Outside.goes g.O.Outside.loses) c.args.tree.now c.args.outside.now c.args.place (λ style. parts (seen_word c.first-item.result).parts [] []) c.eval_word.new.tree c.eval_word.new.outside) c.in_ok-first_text.ensures.text c.eval_word.ensures.runs in
+    let x2 = ran_text c.eval_word-2.result c.in_ok-second_text.second_text (EndsFrom (ways g.O.Outside.goes g.O.Outside.loses) c.eval_word.new.tree c.eval_word.new.outside c.args.place (λ style. parts (seen_word c.second-item.result).parts [] []) c.eval_word-2.new.tree c.eval_word-2.new.outside) c.in_ok-second_text.ensures.text c.eval_word-2.ensures.runs in
+    let x3 = ran_text c.eval_word-3.result c.in_ok-third_text.third_text (EndsFrom (ways g.O.Outside.goes g.O.Outside.loses) c.eval_word-2.new.tree c.eval_word-2.new.outside c.args.place (λ style. parts (seen_word c.third-item.result).parts [] []) c.eval_word-3.new.tree c.eval_word-3.new.outside) c.in_ok-third_text.ensures.text c.eval_word-3.ensures.runs in
+    let p = err_from_is_err_and c.from_residual-in_err-fourth_text.result c.from_residual-in_err-fourth_text.ensures.1 in
+    ran_err c.from_residual-in_err-fourth_text.result c.in_err-fourth_text.field-0.0 p.0 _ _ _ p.1 p.2
+    (stays_of c.eval_word-4.result c.in_err-fourth_text.field-0.0 (EndsFrom (ways g.O.Outside.goes g.O.Outside.loses) c.eval_word-3.new.tree c.eval_word-3.new.outside c.args.place (λ style. parts (seen_word c.fourth-item.result).parts [] []) c.eval_word-4.new.tree c.eval_word-4.new.outside) c.in_err-fourth_text.ensures.same c.eval_word-4.ensures.runs c.in_err-fourth_text.ensures.stays)
+    (λ e h q style at.
+    let at1 = still_at c.args.tree.now c.eval_word.new.tree c.args.place q style (here_text c.eval_word.result c.in_ok-first_text.first_text c.args.tree.now c.eval_word.new.tree c.args.place c.in_ok-first_text.ensures.text c.eval_word.ensures.here) at in
+    let at2 = still_at c.eval_word.new.tree c.eval_word-2.new.tree c.args.place q style (here_text c.eval_word-2.result c.in_ok-second_text.second_text c.eval_word.new.tree c.eval_word-2.new.tree c.args.place c.in_ok-second_text.ensures.text c.eval_word-2.ensures.here) at1 in
+    let at3 = still_at c.eval_word-2.new.tree c.eval_word-3.new.tree c.args.place q style (here_text c.eval_word-3.result c.in_ok-third_text.third_text c.eval_word-2.new.tree c.eval_word-3.new.tree c.args.place c.in_ok-third_text.ensures.text c.eval_word-3.ensures.here) at2 in
+    at_prog (ap (λ (ws : List WordRead). words ws []) is)
+    (Steps.single_goes style (seen_word c.first-item.result) _ [] x1.0 c.in_ok-first_text.first_text single.0 x1.2 x1.3 (x1.1 q style at)
+    (Steps.single_goes style (seen_word c.second-item.result) _ (c.in_ok-first_text.first_text ∷ []) x2.0 c.in_ok-second_text.second_text single.1.0 x2.2 x2.3 (x2.1 q style at1)
+    (Steps.single_goes style (seen_word c.third-item.result) _ (c.in_ok-first_text.first_text ∷ c.in_ok-second_text.second_text ∷ []) x3.0 c.in_ok-third_text.third_text single.1.1.0 x3.2 x3.3 (x3.1 q style at2)
+    (Steps.word_stays style (seen_word c.fourth-item.result) _ (c.in_ok-first_text.first_text ∷ c.in_ok-second_text.second_text ∷ c.in_ok-third_text.third_text ∷ []) e h.1 (h.0 q style at3))))))
+
+pub words::call_four-returns-in_err-fourth_text-clause-here : goal.words::call_four-returns-in_err-fourth_text-clause-here
+words::call_four-returns-in_err-fourth_text-clause-here g t c =
+    let p = err_from_is_err_and c.from_residual-in_err-fourth_text.result c.from_residual-in_err-fourth_text.ensures.1 in
+    here_passed c.from_residual-in_err-fourth_text.result c.eval_word-4.result c.in_err-fourth_text.field-0.0 p.0 c.args.tree.now c.eval_word-3.new.tree c.eval_word-4.new.tree c.args.place p.1 p.2 c.in_err-fourth_text.ensures.same (here-trans c.args.tree.now c.eval_word-2.new.tree c.eval_word-3.new.tree c.args.place (here-trans c.args.tree.now c.eval_word.new.tree c.eval_word-2.new.tree c.args.place (here_text c.eval_word.result c.in_ok-first_text.first_text c.args.tree.now c.eval_word.new.tree c.args.place c.in_ok-first_text.ensures.text c.eval_word.ensures.here) (here_text c.eval_word-2.result c.in_ok-second_text.second_text c.eval_word.new.tree c.eval_word-2.new.tree c.args.place c.in_ok-second_text.ensures.text c.eval_word-2.ensures.here)) (here_text c.eval_word-3.result c.in_ok-third_text.third_text c.eval_word-2.new.tree c.eval_word-3.new.tree c.args.place c.in_ok-third_text.ensures.text c.eval_word-3.ensures.here)) c.eval_word-4.ensures.here
+
+pub words::call_four-returns-in_err-fourth_text-clause-keeps : goal.words::call_four-returns-in_err-fourth_text-clause-keeps
+words::call_four-returns-in_err-fourth_text-clause-keeps g t c = keeps-trans (keeps-trans (keeps-trans c.eval_word.ensures.keeps c.eval_word-2.ensures.keeps) c.eval_word-3.ensures.keeps) c.eval_word-4.ensures.keeps
+
+pub words::call_four-call_texts-requires : goal.words::call_four-call_texts-requires
+words::call_four-call_texts-requires g t c κs within = (search rules, (search rules, still_running c.args.tree.now c.eval_word-4.new.tree c.args.place (here-trans c.args.tree.now c.eval_word-3.new.tree c.eval_word-4.new.tree c.args.place (here-trans c.args.tree.now c.eval_word-2.new.tree c.eval_word-3.new.tree c.args.place (here-trans c.args.tree.now c.eval_word.new.tree c.eval_word-2.new.tree c.args.place (here_text c.eval_word.result c.in_ok-first_text.first_text c.args.tree.now c.eval_word.new.tree c.args.place c.in_ok-first_text.ensures.text c.eval_word.ensures.here) (here_text c.eval_word-2.result c.in_ok-second_text.second_text c.eval_word.new.tree c.eval_word-2.new.tree c.args.place c.in_ok-second_text.ensures.text c.eval_word-2.ensures.here)) (here_text c.eval_word-3.result c.in_ok-third_text.third_text c.eval_word-2.new.tree c.eval_word-3.new.tree c.args.place c.in_ok-third_text.ensures.text c.eval_word-3.ensures.here)) (here_text c.eval_word-4.result c.in_ok-fourth_text.fourth_text c.eval_word-3.new.tree c.eval_word-4.new.tree c.args.place c.in_ok-fourth_text.ensures.text c.eval_word-4.ensures.here)) c.requires.running))
+
+pub words::call_four-returns-clause-runs : goal.words::call_four-returns-clause-runs
+words::call_four-returns-clause-runs g t c =
+    let is : map seen_word c.args.words.now ≡ seen_word c.first-item.result ∷ seen_word c.second-item.result ∷ seen_word c.third-item.result ∷ seen_word c.fourth-item.result ∷ [] = ap (map seen_word) (four_items c.args.words.now c.first-item.result c.second-item.result c.third-item.result c.fourth-item.result c.in-len4.len_at_least c.in-len4.len_below c.first-item.is c.second-item.is c.third-item.is c.fourth-item.is) in
+    let single = subst AreSingle is c.requires.single in
+    let x1 = ran_text c.eval_word.result c.in_ok-first_text.first_text (EndsFrom (ways g.O.Outside.goes g.O.Outside.loses) c.args.tree.now c.args.outside.now c.args.place (λ style. parts (seen_word c.first-item.result).parts [] []) c.eval_word.new.tree c.eval_word.new.outside) c.in_ok-first_text.ensures.text c.eval_word.ensures.runs in
+    let x2 = ran_text c.eval_word-2.result c.in_ok-second_text.second_text (EndsFrom (ways g.O.Outside.goes g.O.Outside.loses) c.eval_word.new.tree c.eval_word.new.outside c.args.place (λ style. parts (seen_word c.second-item.result).parts [] []) c.eval_word-2.new.tree c.eval_word-2.new.outside) c.in_ok-second_text.ensures.text c.eval_word-2.ensures.runs in
+    let x3 = ran_text c.eval_word-3.result c.in_ok-third_text.third_text (EndsFrom (ways g.O.Outside.goes g.O.Outside.loses) c.eval_word-2.new.tree c.eval_word-2.new.outside c.args.place (λ style. parts (seen_word c.third-item.result).parts [] []) c.eval_word-3.new.tree c.eval_word-3.new.outside) c.in_ok-third_text.ensures.text c.eval_word-3.ensures.runs in
+    let x4 = ran_text c.eval_word-4.result c.in_ok-fourth_text.fourth_text (EndsFrom (ways g.O.Outside.goes g.O.Outside.loses) c.eval_word-3.new.tree c.eval_word-3.new.outside c.args.place (λ style. parts (seen_word c.fourth-item.result).parts [] []) c.eval_word-4.new.tree c.eval_word-4.new.outside) c.in_ok-fourth_text.ensures.text c.eval_word-4.ensures.runs in
+    IfRan-more c.call_texts.result (EndsFrom (ways g.O.Outside.goes g.O.Outside.loses) c.eval_word-4.new.tree c.eval_word-4.new.outside c.args.place (λ style. words [] (c.in_ok-first_text.first_text ∷ c.in_ok-second_text.second_text ∷ c.in_ok-third_text.third_text ∷ c.in_ok-fourth_text.fourth_text ∷ [])) c.call_texts.new.tree c.call_texts.new.outside)
+    (EndsFrom (ways g.O.Outside.goes g.O.Outside.loses) c.args.tree.now c.args.outside.now c.args.place (λ style. words (map seen_word c.args.words.now) []) c.call_texts.new.tree c.call_texts.new.outside) (λ e h q style at.
+    let at1 = still_at c.args.tree.now c.eval_word.new.tree c.args.place q style (here_text c.eval_word.result c.in_ok-first_text.first_text c.args.tree.now c.eval_word.new.tree c.args.place c.in_ok-first_text.ensures.text c.eval_word.ensures.here) at in
+    let at2 = still_at c.eval_word.new.tree c.eval_word-2.new.tree c.args.place q style (here_text c.eval_word-2.result c.in_ok-second_text.second_text c.eval_word.new.tree c.eval_word-2.new.tree c.args.place c.in_ok-second_text.ensures.text c.eval_word-2.ensures.here) at1 in
+    let at3 = still_at c.eval_word-2.new.tree c.eval_word-3.new.tree c.args.place q style (here_text c.eval_word-3.result c.in_ok-third_text.third_text c.eval_word-2.new.tree c.eval_word-3.new.tree c.args.place c.in_ok-third_text.ensures.text c.eval_word-3.ensures.here) at2 in
+    let at4 = still_at c.eval_word-3.new.tree c.eval_word-4.new.tree c.args.place q style (here_text c.eval_word-4.result c.in_ok-fourth_text.fourth_text c.eval_word-3.new.tree c.eval_word-4.new.tree c.args.place c.in_ok-fourth_text.ensures.text c.eval_word-4.ensures.here) at3 in
+    at_prog (ap (λ (ws : List WordRead). words ws []) is)
+    (Steps.single_goes style (seen_word c.first-item.result) _ [] x1.0 c.in_ok-first_text.first_text single.0 x1.2 x1.3 (x1.1 q style at)
+    (Steps.single_goes style (seen_word c.second-item.result) _ (c.in_ok-first_text.first_text ∷ []) x2.0 c.in_ok-second_text.second_text single.1.0 x2.2 x2.3 (x2.1 q style at1)
+    (Steps.single_goes style (seen_word c.third-item.result) _ (c.in_ok-first_text.first_text ∷ c.in_ok-second_text.second_text ∷ []) x3.0 c.in_ok-third_text.third_text single.1.1.0 x3.2 x3.3 (x3.1 q style at2)
+    (Steps.single_goes style (seen_word c.fourth-item.result) _ (c.in_ok-first_text.first_text ∷ c.in_ok-second_text.second_text ∷ c.in_ok-third_text.third_text ∷ []) x4.0 c.in_ok-fourth_text.fourth_text single.1.1.1.0 x4.2 x4.3 (x4.1 q style at3)
+    (h q style at4)))))) c.call_texts.ensures.runs
+
+pub words::call_four-returns-clause-here : goal.words::call_four-returns-clause-here
+words::call_four-returns-clause-here g t c = here_then c.call_texts.result c.args.tree.now c.eval_word-4.new.tree c.call_texts.new.tree c.args.place (here-trans c.args.tree.now c.eval_word-3.new.tree c.eval_word-4.new.tree c.args.place (here-trans c.args.tree.now c.eval_word-2.new.tree c.eval_word-3.new.tree c.args.place (here-trans c.args.tree.now c.eval_word.new.tree c.eval_word-2.new.tree c.args.place (here_text c.eval_word.result c.in_ok-first_text.first_text c.args.tree.now c.eval_word.new.tree c.args.place c.in_ok-first_text.ensures.text c.eval_word.ensures.here) (here_text c.eval_word-2.result c.in_ok-second_text.second_text c.eval_word.new.tree c.eval_word-2.new.tree c.args.place c.in_ok-second_text.ensures.text c.eval_word-2.ensures.here)) (here_text c.eval_word-3.result c.in_ok-third_text.third_text c.eval_word-2.new.tree c.eval_word-3.new.tree c.args.place c.in_ok-third_text.ensures.text c.eval_word-3.ensures.here)) (here_text c.eval_word-4.result c.in_ok-fourth_text.fourth_text c.eval_word-3.new.tree c.eval_word-4.new.tree c.args.place c.in_ok-fourth_text.ensures.text c.eval_word-4.ensures.here)) c.call_texts.ensures.here
+
+pub words::call_four-returns-clause-keeps : goal.words::call_four-returns-clause-keeps
+words::call_four-returns-clause-keeps g t c = keeps-trans (keeps-trans (keeps-trans (keeps-trans c.eval_word.ensures.keeps c.eval_word-2.ensures.keeps) c.eval_word-3.ensures.keeps) c.eval_word-4.ensures.keeps) c.call_texts.ensures.keeps
+
+-- words of any kind
+
+pub words::call_words-call_two-requires : goal.words::call_words-call_two-requires
+words::call_words-call_two-requires g t c κs within = (search rules, (search rules, (c.requires.running, c.are_single.ensures c.if-not-are_single.false)))
+
+pub words::call_words-call_three-requires : goal.words::call_words-call_three-requires
+words::call_words-call_three-requires g t c κs within = (search rules, (search rules, (c.requires.running, c.are_single.ensures c.if-not-are_single.false)))
+
+pub words::call_words-call_four-requires : goal.words::call_words-call_four-requires
+words::call_words-call_four-requires g t c κs within = (search rules, (search rules, (c.requires.running, c.are_single.ensures c.if-not-are_single.false)))
+
+-- a command
+
+pub evaluation::eval_command-call_literals-requires : goal.evaluation::eval_command-call_literals-requires
+evaluation::eval_command-call_literals-requires g t c κs within = (search rules, (search rules, (c.requires.running, subst AllWithin (sym c.words.ensures.words) c.words.ensures.within)))
+
+pub evaluation::eval_command-returns-in-Constant-clause-runs : goal.evaluation::eval_command-returns-in-Constant-clause-runs
+evaluation::eval_command-returns-in-Constant-clause-runs g t c =
+    IfRan-more c.call_literals.result (EndsFrom (ways g.O.Outside.goes g.O.Outside.loses) c.args.tree.now c.args.outside.now c.args.place (λ style. words (map literal_word c.words.result.now) []) c.call_literals.new.tree c.call_literals.new.outside)
+    (EndsFrom (ways g.O.Outside.goes g.O.Outside.loses) c.args.tree.now c.args.outside.now c.args.place (λ style. words (seen_command c.args.command.now) []) c.call_literals.new.tree c.call_literals.new.outside)
+    (λ e h q style at. at_prog (ap (λ (command : PreparedCommand). words (seen_command command) []) c.in-Constant.is ∙ ap (λ (ts : List (List ℕ)). words (map literal_word ts) []) (sym c.words.ensures.words)) (h q style at)) c.call_literals.ensures.runs
+
+pub evaluation::eval_command-returns-in-General-clause-runs : goal.evaluation::eval_command-returns-in-General-clause-runs
+evaluation::eval_command-returns-in-General-clause-runs g t c =
+    IfRan-more c.call_words.result (EndsFrom (ways g.O.Outside.goes g.O.Outside.loses) c.args.tree.now c.args.outside.now c.args.place (λ style. words (map seen_word c.as_slice.result.now) []) c.call_words.new.tree c.call_words.new.outside)
+    (EndsFrom (ways g.O.Outside.goes g.O.Outside.loses) c.args.tree.now c.args.outside.now c.args.place (λ style. words (seen_command c.args.command.now) []) c.call_words.new.tree c.call_words.new.outside)
+    (λ e h q style at. at_prog (ap (λ (command : PreparedCommand). words (seen_command command) []) c.in-General.is ∙ ap (λ (ws : List PreparedWord). words (map seen_word ws) []) (sym c.as_slice.ensures.value)) (h q style at)) c.call_words.ensures.runs
 
 -- the commands of a script
 
 pub evaluation::eval_commands-returns-in_err-last-clause-runs : goal.evaluation::eval_commands-returns-in_err-last-clause-runs
 evaluation::eval_commands-returns-in_err-last-clause-runs g t c =
-    let item = item_on c.deref-command-items.result.now c.commands.command-index c.command-item.result c.commands-test.true c.command-item.is in
+    let item = item_on c.commands-all.result.now c.commands.command-index c.command-item.result c.commands-test.true c.command-item.is in
     let p = err_from_is_err_and c.from_residual.result c.from_residual.ensures.1 in
     ran_err c.from_residual.result c.in_err-last.field-0.0 p.0 _ _ _ p.1 p.2
-    (stays_of c.eval_command.result c.in_err-last.field-0.0 (EndsFrom (ways g.O.Outside.goes g.O.Outside.loses) c.commands.tree c.commands.outside c.args.place (λ style. words c.command-item.result []) c.eval_command.new.tree c.eval_command.new.outside) c.in_err-last.ensures.same c.eval_command.ensures.runs c.in_err-last.ensures.stays)
-    (λ e h q style at. c.commands.invariant.leads q style at _ _ _ (at_prog (ap (λ (cs : List (List WordRead)). commands cs c.args.script.now.fault c.commands.last) item)
-    (Steps.command_stays style c.command-item.result _ c.args.script.now.fault c.commands.last e h.1 (h.0 q style (still_at c.args.tree.now c.commands.tree c.args.place q style c.commands.invariant.here at)))))
+    (stays_of c.eval_command.result c.in_err-last.field-0.0 (EndsFrom (ways g.O.Outside.goes g.O.Outside.loses) c.commands.tree c.commands.outside c.args.place (λ style. words (seen_command c.command-item.result) []) c.eval_command.new.tree c.eval_command.new.outside) c.in_err-last.ensures.same c.eval_command.ensures.runs c.in_err-last.ensures.stays)
+    (λ e h q style at. c.commands.invariant.leads q style at _ _ _ (at_prog (ap (λ (cs : List PreparedCommand). commands (map seen_command cs) c.args.script.now.fault c.commands.last) item)
+    (Steps.command_stays style (seen_command c.command-item.result) _ c.args.script.now.fault c.commands.last e h.1 (h.0 q style (still_at c.args.tree.now c.commands.tree c.args.place q style c.commands.invariant.here at)))))
 
 pub evaluation::eval_commands-commands-preserved : goal.evaluation::eval_commands-commands-preserved
 evaluation::eval_commands-commands-preserved g t c =
-    let item = item_on c.deref-command-items.result.now c.commands.command-index c.command-item.result c.commands-test.true c.command-item.is in
-    let x = ran_text c.eval_command.result c.in_ok-last.last (EndsFrom (ways g.O.Outside.goes g.O.Outside.loses) c.commands.tree c.commands.outside c.args.place (λ style. words c.command-item.result []) c.eval_command.new.tree c.eval_command.new.outside) c.in_ok-last.ensures.text c.eval_command.ensures.runs in
+    let item = item_on c.commands-all.result.now c.commands.command-index c.command-item.result c.commands-test.true c.command-item.is in
+    let x = ran_text c.eval_command.result c.in_ok-last.last (EndsFrom (ways g.O.Outside.goes g.O.Outside.loses) c.commands.tree c.commands.outside c.args.place (λ style. words (seen_command c.command-item.result) []) c.eval_command.new.tree c.eval_command.new.outside) c.in_ok-last.ensures.text c.eval_command.ensures.runs in
     record {
-      leads = λ q style at V z r run. c.commands.invariant.leads q style at _ _ _ (at_prog (ap (λ (cs : List (List WordRead)). commands cs c.args.script.now.fault c.commands.last) item)
-          (Steps.command_goes style c.command-item.result _ c.args.script.now.fault c.commands.last x.0 c.in_ok-last.last x.2 x.3 (x.1 q style (still_at c.args.tree.now c.commands.tree c.args.place q style c.commands.invariant.here at)) run));
+      leads = λ q style at V z r run. c.commands.invariant.leads q style at _ _ _ (at_prog (ap (λ (cs : List PreparedCommand). commands (map seen_command cs) c.args.script.now.fault c.commands.last) item)
+          (Steps.command_goes style (seen_command c.command-item.result) _ c.args.script.now.fault c.commands.last x.0 c.in_ok-last.last x.2 x.3 (x.1 q style (still_at c.args.tree.now c.commands.tree c.args.place q style c.commands.invariant.here at)) run));
       here = here-trans c.args.tree.now c.commands.tree c.eval_command.new.tree c.args.place c.commands.invariant.here (here_text c.eval_command.result c.in_ok-last.last c.commands.tree c.eval_command.new.tree c.args.place c.in_ok-last.ensures.text c.eval_command.ensures.here);
       keeps = keeps-trans c.commands.invariant.keeps c.eval_command.ensures.keeps;
     }
 
 pub evaluation::eval_commands-returns-clause-runs : goal.evaluation::eval_commands-returns-clause-runs
 evaluation::eval_commands-returns-clause-runs g t c =
-    let none = none_on c.deref-command-items.result.now c.commands.command-index c.commands-test.false in
+    let none = none_on c.commands-all.result.now c.commands.command-index c.commands-test.false in
     ran c.finish.result (EndsBy (over c.args.script.now.fault c.commands.last))
-    (EndsFrom (ways g.O.Outside.goes g.O.Outside.loses) c.args.tree.now c.args.outside.now c.args.place (λ style. commands c.args.script.now.commands c.args.script.now.fault []) c.commands.tree c.commands.outside) (λ e h q style at. c.commands.invariant.leads q style at _ _ _ (at_prog (ap (λ (cs : List (List WordRead)). commands cs c.args.script.now.fault c.commands.last) none)
+    (EndsFrom (ways g.O.Outside.goes g.O.Outside.loses) c.args.tree.now c.args.outside.now c.args.place (λ style. commands c.args.script.now.commands c.args.script.now.fault []) c.commands.tree c.commands.outside) (λ e h q style at. c.commands.invariant.leads q style at _ _ _ (at_prog (ap (λ (cs : List PreparedCommand). commands (map seen_command cs) c.args.script.now.fault c.commands.last) none)
     (Steps.is_over style c.args.script.now.fault c.commands.last e h)))
-    (λ q style at. c.commands.invariant.leads q style at _ _ _ stopped) c.finish.ensures
+    (λ q style at. c.commands.invariant.leads q style at _ _ _ stopped) (subst (λ (f : Option Fault). IfEnded c.finish.result (EndsBy (over f c.commands.last))) c.fault.ensures c.finish.ensures)
 
 -- a word that is one part
 
@@ -283,25 +668,42 @@ evaluation::eval_lone_part-returns-in_err-clone-in-Literal-clause-runs g t c =
 
 pub evaluation::eval_lone_part-returns-in_ok-clone-in-Literal-clause-runs : goal.evaluation::eval_lone_part-returns-in_ok-clone-in-Literal-clause-runs
 evaluation::eval_lone_part-returns-in_ok-clone-in-Literal-clause-runs g t c =
-    let is : c.args.part.now ≡ part.Literal c.in_ok-clone-in-Literal.field-0 = c.in-Literal.is ∙ ap (λ (text : List ℕ). part.Literal text) (sym c.in_ok-clone-in-Literal.ensures.cases) in
-    ran c.within.result (TextEnds c.in_ok-clone-in-Literal.field-0) (EndsFrom (ways g.O.Outside.goes g.O.Outside.loses) c.args.tree.now c.args.outside.now c.args.place (λ style. parts (c.args.part.now ∷ []) [] []) c.args.tree.now c.args.outside.now)
-    (λ e h q style at. Steps.lone_literal style c.args.part.now c.in_ok-clone-in-Literal.field-0 e is h) (λ q style at. stopped) (text_ends c.within.result c.in_ok-clone-in-Literal.field-0 c.within.ensures.whole c.within.ensures.refused)
+    let is : (seen_part c.args.part.now) ≡ part.Literal c.in_ok-clone-in-Literal.field-0 = (ap seen_part c.in-Literal.is) ∙ ap (λ (text : List ℕ). part.Literal text) (sym c.in_ok-clone-in-Literal.ensures.cases) in
+    ran c.within.result (TextEnds c.in_ok-clone-in-Literal.field-0) (EndsFrom (ways g.O.Outside.goes g.O.Outside.loses) c.args.tree.now c.args.outside.now c.args.place (λ style. parts ((seen_part c.args.part.now) ∷ []) [] []) c.args.tree.now c.args.outside.now)
+    (λ e h q style at. Steps.lone_literal style (seen_part c.args.part.now) c.in_ok-clone-in-Literal.field-0 e is h) (λ q style at. stopped) (text_ends c.within.result c.in_ok-clone-in-Literal.field-0 c.within.ensures.whole c.within.ensures.refused)
 
 pub evaluation::eval_lone_part-returns-in-Variable-clause-runs : goal.evaluation::eval_lone_part-returns-in-Variable-clause-runs
 evaluation::eval_lone_part-returns-in-Variable-clause-runs g t c =
-    ran c.read_variable.result (λ e. (p : Path) (n : Node Own) → Names c.args.tree.now c.args.place p → tree_of c.args.tree.now p ≡ Some n → VariableEnds c.in-Variable.name n e)
-    (EndsFrom (ways g.O.Outside.goes g.O.Outside.loses) c.args.tree.now c.args.outside.now c.args.place (λ style. parts (c.args.part.now ∷ []) [] []) c.args.tree.now c.args.outside.now)
-    (λ e h q style at. let n = stands (tree_of c.args.tree.now q) (tree_there c.args.tree.now q _ at.names) in Steps.lone_variable style c.args.part.now c.in-Variable.name e c.in-Variable.is n.1 (h q n.0 at.names n.1))
+    ran c.read_named.result (λ e. (p : Path) (n : Node Own) → Names c.args.tree.now c.args.place p → tree_of c.args.tree.now p ≡ Some n → VariableEnds c.in-Variable.name n e)
+    (EndsFrom (ways g.O.Outside.goes g.O.Outside.loses) c.args.tree.now c.args.outside.now c.args.place (λ style. parts ((seen_part c.args.part.now) ∷ []) [] []) c.args.tree.now c.args.outside.now)
+    (λ e h q style at. let n = stands (tree_of c.args.tree.now q) (tree_there c.args.tree.now q _ at.names) in Steps.lone_variable style (seen_part c.args.part.now) c.in-Variable.name e (ap seen_part c.in-Variable.is) n.1 (h q n.0 at.names n.1))
     (λ q style at. stopped)
-    (IfEnded-at c.read_variable.result c.args.tree.now c.args.place (VariableEnds c.in-Variable.name) (λ p n at there. variable_ends c.read_variable.result c.in-Variable.name n c.read_variable.ensures.short (c.read_variable.ensures.read p n at there)))
+    (IfEnded-at c.read_named.result c.args.tree.now c.args.place (VariableEnds c.in-Variable.name) (λ p n at there. variable_ends c.read_named.result c.in-Variable.name n c.read_named.ensures.short (c.read_named.ensures.read p n at there)))
 
 pub evaluation::eval_lone_part-returns-in-Element-clause-runs : goal.evaluation::eval_lone_part-returns-in-Element-clause-runs
 evaluation::eval_lone_part-returns-in-Element-clause-runs g t c = λ q style at.
-    at_prog (ap (λ (y : Part). parts (y ∷ []) [] []) c.in-Element.is) (Steps.element_goes style c.in-Element.field-0 [] [] [] (at_reply (ap (λ (x : List ℕ). Completed (ok x)) c.empty.ensures) completed))
+    at_prog (ap (λ (y : Part). parts (y ∷ []) [] []) (ap seen_part c.in-Element.is)) (Steps.element_goes style c.in-Element.field-0 [] [] [] (at_reply (ap (λ (x : List ℕ). Completed (ok x)) c.empty.ensures) completed))
 
 pub evaluation::eval_lone_part-returns-in-EndElement-clause-runs : goal.evaluation::eval_lone_part-returns-in-EndElement-clause-runs
 evaluation::eval_lone_part-returns-in-EndElement-clause-runs g t c = λ q style at.
-    at_prog (ap (λ (y : Part). parts (y ∷ []) [] []) c.in-EndElement.is) (at_reply (ap (λ (x : List ℕ). Completed (ok x)) c.empty-in-EndElement.ensures) completed)
+    at_prog (ap (λ (y : Part). parts (y ∷ []) [] []) (ap seen_part c.in-EndElement.is)) (at_reply (ap (λ (x : List ℕ). Completed (ok x)) c.empty-in-EndElement.ensures) completed)
+
+pub evaluation::eval_word-returns-in_err-clone-in-Literal-clause-runs : goal.evaluation::eval_word-returns-in_err-clone-in-Literal-clause-runs
+evaluation::eval_word-returns-in_err-clone-in-Literal-clause-runs g t c =
+    let p = err_from_is_err_and c.from_residual.result c.from_residual.ensures.1 in
+    memory_err c.from_residual.result p.0 _ _ p.1 p.2 (λ q style at. stopped)
+
+pub evaluation::eval_word-returns-in_err-clone-in-Literal-clause-here : goal.evaluation::eval_word-returns-in_err-clone-in-Literal-clause-here
+evaluation::eval_word-returns-in_err-clone-in-Literal-clause-here g t c = unmoved c.from_residual.result c.args.tree.now c.args.place
+
+pub evaluation::eval_word-returns-in_ok-clone-in-Literal-clause-runs : goal.evaluation::eval_word-returns-in_ok-clone-in-Literal-clause-runs
+evaluation::eval_word-returns-in_ok-clone-in-Literal-clause-runs g t c =
+    let same : c.known_short.result ≡ c.in-Literal.value = c.known_short.ensures.same ∙ c.in_ok-clone-in-Literal.ensures.cases in
+    λ q style at. at_prog (ap (λ (w : PreparedWord). parts (seen_word w).parts [] []) c.in-Literal.is ∙ ap (λ (v : List ℕ). parts (literal_parts v) [] []) (sym same))
+    (Steps.lone style c.known_short.result (ap fits c.known_short.ensures.same ∙ c.known_short.ensures.short))
+
+pub evaluation::eval_word-returns-in_ok-clone-in-Literal-clause-here : goal.evaluation::eval_word-returns-in_ok-clone-in-Literal-clause-here
+evaluation::eval_word-returns-in_ok-clone-in-Literal-clause-here g t c = here-refl c.args.tree.now c.args.place
 
 -- a script
 
@@ -355,6 +757,13 @@ evaluation::eval_script-returns-clause-held g t c = λ q at.
     nested_held c.args.tree.now c.nest_at.new.self c.eval_commands-ended.new.tree c.args.place q at c.in_default.ensures.keys c.in_default.ensures.deeper (c.in_default.ensures.nested q at).1 c.eval_commands-ended.ensures.keeps.steady
     c.unnest.new.self c.unnest.ensures.keys c.unnest.ensures.shallower (c.unnest.ensures.unnested q 1 (nested_holds c.args.tree.now c.nest_at.new.self c.eval_commands-ended.new.tree c.args.place q at c.in_default.ensures.keys c.in_default.ensures.deeper (c.in_default.ensures.nested q at).1 c.eval_commands-ended.ensures.keeps.steady))
 
+pub evaluation::eval_bracket-returns-clause-runs : goal.evaluation::eval_bracket-returns-clause-runs
+evaluation::eval_bracket-returns-clause-runs g t c =
+    IfRan-more c.eval_script.result
+    (EndsAt (ways g.O.Outside.goes g.O.Outside.loses) c.args.tree.now c.args.outside.now c.args.place (λ style. read_so c.script.result.now) c.eval_script.new.tree c.eval_script.new.outside)
+    (EndsAt (ways g.O.Outside.goes g.O.Outside.loses) c.args.tree.now c.args.outside.now c.args.place (λ style. script c.args.bracket.now) c.eval_script.new.tree c.eval_script.new.outside)
+    (λ e h q style at. at_prog (ap read_so (sym c.script.ensures)) (h q style at)) c.eval_script.ensures.runs
+
 pub evaluation::eval_text-returns-in_err-script-clause-runs : goal.evaluation::eval_text-returns-in_err-script-clause-runs
 evaluation::eval_text-returns-in_err-script-clause-runs g t c =
     let p = err_from_is_err_and c.from_residual.result c.from_residual.ensures.1 in
@@ -388,7 +797,7 @@ evaluation::eval_part-returns-in_err-value-in-Variable-clause-runs g t c =
     fails_err c.from_residual.result c.in_err-value-in-Variable.field-0.0 p.0 _ _ _ p.1 p.2
     (Interrupts-at c.in_err-value-in-Variable.field-0.0 c.args.tree.now c.args.place (λ n e. IsFailure frame_message (read n.own.chain.frames c.in-Variable.name) e) c.in_err-value-in-Variable.ensures.read)
     (λ e h q style at rest. let n = stands (tree_of c.args.tree.now q) (tree_there c.args.tree.now q _ at.names) in
-    at_prog (ap (λ (y : Part). parts (y ∷ rest) (opens c.args.elements.now.items) (string_bytes c.args.text.now)) c.in-Variable.is)
+    at_prog (ap (λ (y : Part). parts (y ∷ rest) (opens c.args.elements.now.items) (string_bytes c.args.text.now)) (ap seen_part c.in-Variable.is))
     (Steps.variable_fails style c.in-Variable.name rest (opens c.args.elements.now.items) (string_bytes c.args.text.now) n.1 (h q n.0 at.names n.1)))
     (λ q style at rest. stopped)
 
@@ -396,17 +805,17 @@ pub evaluation::eval_part-returns-in_ok-value-in-Variable-clause-runs : goal.eva
 evaluation::eval_part-returns-in_ok-value-in-Variable-clause-runs g t c =
     appended _ c.append_value.result c.append_value.ensures.added c.append_value.ensures.refused
     (λ a q style at rest V z r run. let n = stands (tree_of c.args.tree.now q) (tree_there c.args.tree.now q _ at.names) in
-    at_prog (ap (λ (y : Part). parts (y ∷ rest) (opens c.args.elements.now.items) (string_bytes c.args.text.now)) c.in-Variable.is)
+    at_prog (ap (λ (y : Part). parts (y ∷ rest) (opens c.args.elements.now.items) (string_bytes c.args.text.now)) (ap seen_part c.in-Variable.is))
     (Steps.variable_goes style c.in-Variable.name c.in_ok-value-in-Variable.value rest (opens c.args.elements.now.items) (string_bytes c.args.text.now) n.1 (c.in_ok-value-in-Variable.ensures.read q n.0 at.names n.1) a.0
     (at_prog (ap (parts rest (opens c.args.elements.now.items)) (sym a.1)) run)))
     (λ e b q style at rest. let n = stands (tree_of c.args.tree.now q) (tree_there c.args.tree.now q _ at.names) in
-    at_prog (ap (λ (y : Part). parts (y ∷ rest) (opens c.args.elements.now.items) (string_bytes c.args.text.now)) c.in-Variable.is)
+    at_prog (ap (λ (y : Part). parts (y ∷ rest) (opens c.args.elements.now.items) (string_bytes c.args.text.now)) (ap seen_part c.in-Variable.is))
     (Steps.variable_long style c.in-Variable.name c.in_ok-value-in-Variable.value rest (opens c.args.elements.now.items) (string_bytes c.args.text.now) n.1 (c.in_ok-value-in-Variable.ensures.read q n.0 at.names n.1) b.0 b.1))
     (λ q style at rest. stopped)
 
 pub evaluation::eval_part-returns-in-Literal-clause-runs : goal.evaluation::eval_part-returns-in-Literal-clause-runs
 evaluation::eval_part-returns-in-Literal-clause-runs g t c =
-    let is : c.args.part.now ≡ part.Literal c.as_str.result.now = c.in-Literal.is ∙ ap (λ (text : List ℕ). part.Literal text) (sym c.as_str.ensures) in
+    let is : (seen_part c.args.part.now) ≡ part.Literal c.as_str.result.now = (ap seen_part c.in-Literal.is) ∙ ap (λ (text : List ℕ). part.Literal text) (sym c.as_str.ensures) in
     appended _ c.append.result c.append.ensures.added c.append.ensures.refused
     (λ a q style at rest V z r run. at_prog (ap (λ (y : Part). parts (y ∷ rest) (opens c.args.elements.now.items) (string_bytes c.args.text.now)) is)
     (Steps.literal_goes style c.as_str.result.now rest (opens c.args.elements.now.items) (string_bytes c.args.text.now) a.0 (at_prog (ap (parts rest (opens c.args.elements.now.items)) (sym a.1)) run)))
@@ -416,52 +825,94 @@ evaluation::eval_part-returns-in-Literal-clause-runs g t c =
 
 -- a script among the parts of a word
 
-pub evaluation::eval_lone_part-returns-in_err-value-in-Script-clause-runs : goal.evaluation::eval_lone_part-returns-in_err-value-in-Script-clause-runs
-evaluation::eval_lone_part-returns-in_err-value-in-Script-clause-runs g t c =
-    let is : c.args.part.now ≡ part.Script c.in-Script.script = c.in-Script.is in
-    let p = err_from_is_err_and c.from_residual-in_err-value-in-Script.result c.from_residual-in_err-value-in-Script.ensures.1 in
-    ran_err c.from_residual-in_err-value-in-Script.result c.in_err-value-in-Script.field-0.0 p.0 _ _ _ p.1 p.2
-    (stays_of c.eval_text.result c.in_err-value-in-Script.field-0.0
-    (EndsAt (ways g.O.Outside.goes g.O.Outside.loses) c.args.tree.now c.args.outside.now c.args.place (λ style. script c.in-Script.script) c.eval_text.new.tree c.eval_text.new.outside)
-    c.in_err-value-in-Script.ensures.same c.eval_text.ensures.runs c.in_err-value-in-Script.ensures.stays)
-    (λ e h q style at. Steps.lone_stays style c.args.part.now c.in-Script.script e [] [] [] is h.1 (h.0 q style (record { names = at.names; style_is = at.style_is })))
+pub evaluation::eval_lone_part-returns-in_err-value-in-Bracket-clause-runs : goal.evaluation::eval_lone_part-returns-in_err-value-in-Bracket-clause-runs
+evaluation::eval_lone_part-returns-in_err-value-in-Bracket-clause-runs g t c =
+    let is : (seen_part c.args.part.now) ≡ part.Script c.in-Bracket.bracket = (ap seen_part c.in-Bracket.is) in
+    let p = err_from_is_err_and c.from_residual-in_err-value-in-Bracket.result c.from_residual-in_err-value-in-Bracket.ensures.1 in
+    ran_err c.from_residual-in_err-value-in-Bracket.result c.in_err-value-in-Bracket.field-0.0 p.0 _ _ _ p.1 p.2
+    (stays_of c.eval_bracket.result c.in_err-value-in-Bracket.field-0.0
+    (EndsAt (ways g.O.Outside.goes g.O.Outside.loses) c.args.tree.now c.args.outside.now c.args.place (λ style. script c.in-Bracket.bracket) c.eval_bracket.new.tree c.eval_bracket.new.outside)
+    c.in_err-value-in-Bracket.ensures.same c.eval_bracket.ensures.runs c.in_err-value-in-Bracket.ensures.stays)
+    (λ e h q style at. Steps.lone_stays style (seen_part c.args.part.now) c.in-Bracket.bracket e [] [] [] is h.1 (h.0 q style (record { names = at.names; style_is = at.style_is })))
 
-pub evaluation::eval_lone_part-returns-in_ok-value-in-Script-clause-runs : goal.evaluation::eval_lone_part-returns-in_ok-value-in-Script-clause-runs
-evaluation::eval_lone_part-returns-in_ok-value-in-Script-clause-runs g t c =
-    let is : c.args.part.now ≡ part.Script c.in-Script.script = c.in-Script.is in
-    let x = ran_text c.eval_text.result c.in_ok-value-in-Script.value (EndsAt (ways g.O.Outside.goes g.O.Outside.loses) c.args.tree.now c.args.outside.now c.args.place (λ style. script c.in-Script.script) c.eval_text.new.tree c.eval_text.new.outside)
-    c.in_ok-value-in-Script.ensures.text c.eval_text.ensures.runs in
-    λ q style at. Steps.lone_script style c.args.part.now c.in-Script.script c.known_short.result x.0 is x.2 (x.3 ∙ sym c.known_short.ensures.same)
+pub evaluation::eval_lone_part-returns-in_err-value-in-Deep-clause-runs : goal.evaluation::eval_lone_part-returns-in_err-value-in-Deep-clause-runs
+evaluation::eval_lone_part-returns-in_err-value-in-Deep-clause-runs g t c =
+    let is : (seen_part c.args.part.now) ≡ part.Script c.in-Deep.script = (ap seen_part c.in-Deep.is) in
+    let p = err_from_is_err_and c.from_residual-in_err-value-in-Deep.result c.from_residual-in_err-value-in-Deep.ensures.1 in
+    ran_err c.from_residual-in_err-value-in-Deep.result c.in_err-value-in-Deep.field-0.0 p.0 _ _ _ p.1 p.2
+    (stays_of c.eval_text.result c.in_err-value-in-Deep.field-0.0
+    (EndsAt (ways g.O.Outside.goes g.O.Outside.loses) c.args.tree.now c.args.outside.now c.args.place (λ style. script c.in-Deep.script) c.eval_text.new.tree c.eval_text.new.outside)
+    c.in_err-value-in-Deep.ensures.same c.eval_text.ensures.runs c.in_err-value-in-Deep.ensures.stays)
+    (λ e h q style at. Steps.lone_stays style (seen_part c.args.part.now) c.in-Deep.script e [] [] [] is h.1 (h.0 q style (record { names = at.names; style_is = at.style_is })))
+
+pub evaluation::eval_lone_part-returns-in_ok-value-in-Bracket-clause-runs : goal.evaluation::eval_lone_part-returns-in_ok-value-in-Bracket-clause-runs
+evaluation::eval_lone_part-returns-in_ok-value-in-Bracket-clause-runs g t c =
+    let is : (seen_part c.args.part.now) ≡ part.Script c.in-Bracket.bracket = (ap seen_part c.in-Bracket.is) in
+    let x = ran_text c.eval_bracket.result c.in_ok-value-in-Bracket.value (EndsAt (ways g.O.Outside.goes g.O.Outside.loses) c.args.tree.now c.args.outside.now c.args.place (λ style. script c.in-Bracket.bracket) c.eval_bracket.new.tree c.eval_bracket.new.outside)
+    c.in_ok-value-in-Bracket.ensures.text c.eval_bracket.ensures.runs in
+    λ q style at. Steps.lone_script style (seen_part c.args.part.now) c.in-Bracket.bracket c.known_short.result x.0 is x.2 (x.3 ∙ sym c.known_short.ensures.same)
     (ap fits c.known_short.ensures.same ∙ c.known_short.ensures.short) (x.1 q style (record { names = at.names; style_is = at.style_is }))
 
-pub evaluation::eval_part-returns-in_err-value-in-Script-clause-runs : goal.evaluation::eval_part-returns-in_err-value-in-Script-clause-runs
-evaluation::eval_part-returns-in_err-value-in-Script-clause-runs g t c =
-    let is : c.args.part.now ≡ part.Script c.in-Script.script = c.in-Script.is in
-    let p = err_from_is_err_and c.from_residual-in_err-value-in-Script.result c.from_residual-in_err-value-in-Script.ensures.1 in
-    ran_err c.from_residual-in_err-value-in-Script.result c.in_err-value-in-Script.field-0.0 p.0 _ _ _ p.1 p.2
-    (stays_of c.eval_text.result c.in_err-value-in-Script.field-0.0
-    (EndsAt (ways g.O.Outside.goes g.O.Outside.loses) c.args.tree.now c.args.outside.now c.args.place (λ style. script c.in-Script.script) c.eval_text.new.tree c.eval_text.new.outside)
-    c.in_err-value-in-Script.ensures.same c.eval_text.ensures.runs c.in_err-value-in-Script.ensures.stays)
-    (λ e h q style at rest. Steps.lone_stays style c.args.part.now c.in-Script.script e rest (opens c.args.elements.now.items) (string_bytes c.args.text.now) is h.1 (h.0 q style (record { names = at.names; style_is = at.style_is })))
+pub evaluation::eval_lone_part-returns-in_ok-value-in-Deep-clause-runs : goal.evaluation::eval_lone_part-returns-in_ok-value-in-Deep-clause-runs
+evaluation::eval_lone_part-returns-in_ok-value-in-Deep-clause-runs g t c =
+    let is : (seen_part c.args.part.now) ≡ part.Script c.in-Deep.script = (ap seen_part c.in-Deep.is) in
+    let x = ran_text c.eval_text.result c.in_ok-value-in-Deep.value (EndsAt (ways g.O.Outside.goes g.O.Outside.loses) c.args.tree.now c.args.outside.now c.args.place (λ style. script c.in-Deep.script) c.eval_text.new.tree c.eval_text.new.outside)
+    c.in_ok-value-in-Deep.ensures.text c.eval_text.ensures.runs in
+    λ q style at. Steps.lone_script style (seen_part c.args.part.now) c.in-Deep.script c.known_short-in-Deep.result x.0 is x.2 (x.3 ∙ sym c.known_short-in-Deep.ensures.same)
+    (ap fits c.known_short-in-Deep.ensures.same ∙ c.known_short-in-Deep.ensures.short) (x.1 q style (record { names = at.names; style_is = at.style_is }))
 
-pub evaluation::eval_part-returns-in_ok-value-in-Script-clause-runs : goal.evaluation::eval_part-returns-in_ok-value-in-Script-clause-runs
-evaluation::eval_part-returns-in_ok-value-in-Script-clause-runs g t c =
-    let is : c.args.part.now ≡ part.Script c.in-Script.script = c.in-Script.is in
-    let x = ran_text c.eval_text.result c.in_ok-value-in-Script.value (EndsAt (ways g.O.Outside.goes g.O.Outside.loses) c.args.tree.now c.args.outside.now c.args.place (λ style. script c.in-Script.script) c.eval_text.new.tree c.eval_text.new.outside)
-    c.in_ok-value-in-Script.ensures.text c.eval_text.ensures.runs in
-    appended _ c.append_value-in-Script.result c.append_value-in-Script.ensures.added c.append_value-in-Script.ensures.refused
+pub evaluation::eval_part-returns-in_err-value-in-Bracket-clause-runs : goal.evaluation::eval_part-returns-in_err-value-in-Bracket-clause-runs
+evaluation::eval_part-returns-in_err-value-in-Bracket-clause-runs g t c =
+    let is : (seen_part c.args.part.now) ≡ part.Script c.in-Bracket.bracket = (ap seen_part c.in-Bracket.is) in
+    let p = err_from_is_err_and c.from_residual-in_err-value-in-Bracket.result c.from_residual-in_err-value-in-Bracket.ensures.1 in
+    ran_err c.from_residual-in_err-value-in-Bracket.result c.in_err-value-in-Bracket.field-0.0 p.0 _ _ _ p.1 p.2
+    (stays_of c.eval_bracket.result c.in_err-value-in-Bracket.field-0.0
+    (EndsAt (ways g.O.Outside.goes g.O.Outside.loses) c.args.tree.now c.args.outside.now c.args.place (λ style. script c.in-Bracket.bracket) c.eval_bracket.new.tree c.eval_bracket.new.outside)
+    c.in_err-value-in-Bracket.ensures.same c.eval_bracket.ensures.runs c.in_err-value-in-Bracket.ensures.stays)
+    (λ e h q style at rest. Steps.lone_stays style (seen_part c.args.part.now) c.in-Bracket.bracket e rest (opens c.args.elements.now.items) (string_bytes c.args.text.now) is h.1 (h.0 q style (record { names = at.names; style_is = at.style_is })))
+
+pub evaluation::eval_part-returns-in_err-value-in-Deep-clause-runs : goal.evaluation::eval_part-returns-in_err-value-in-Deep-clause-runs
+evaluation::eval_part-returns-in_err-value-in-Deep-clause-runs g t c =
+    let is : (seen_part c.args.part.now) ≡ part.Script c.in-Deep.script = (ap seen_part c.in-Deep.is) in
+    let p = err_from_is_err_and c.from_residual-in_err-value-in-Deep.result c.from_residual-in_err-value-in-Deep.ensures.1 in
+    ran_err c.from_residual-in_err-value-in-Deep.result c.in_err-value-in-Deep.field-0.0 p.0 _ _ _ p.1 p.2
+    (stays_of c.eval_text.result c.in_err-value-in-Deep.field-0.0
+    (EndsAt (ways g.O.Outside.goes g.O.Outside.loses) c.args.tree.now c.args.outside.now c.args.place (λ style. script c.in-Deep.script) c.eval_text.new.tree c.eval_text.new.outside)
+    c.in_err-value-in-Deep.ensures.same c.eval_text.ensures.runs c.in_err-value-in-Deep.ensures.stays)
+    (λ e h q style at rest. Steps.lone_stays style (seen_part c.args.part.now) c.in-Deep.script e rest (opens c.args.elements.now.items) (string_bytes c.args.text.now) is h.1 (h.0 q style (record { names = at.names; style_is = at.style_is })))
+
+pub evaluation::eval_part-returns-in_ok-value-in-Bracket-clause-runs : goal.evaluation::eval_part-returns-in_ok-value-in-Bracket-clause-runs
+evaluation::eval_part-returns-in_ok-value-in-Bracket-clause-runs g t c =
+    let is : (seen_part c.args.part.now) ≡ part.Script c.in-Bracket.bracket = (ap seen_part c.in-Bracket.is) in
+    let x = ran_text c.eval_bracket.result c.in_ok-value-in-Bracket.value (EndsAt (ways g.O.Outside.goes g.O.Outside.loses) c.args.tree.now c.args.outside.now c.args.place (λ style. script c.in-Bracket.bracket) c.eval_bracket.new.tree c.eval_bracket.new.outside)
+    c.in_ok-value-in-Bracket.ensures.text c.eval_bracket.ensures.runs in
+    appended _ c.append_value-in-Bracket.result c.append_value-in-Bracket.ensures.added c.append_value-in-Bracket.ensures.refused
     (λ a q style at rest V z r run. at_prog (ap (λ (y : Part). parts (y ∷ rest) (opens c.args.elements.now.items) (string_bytes c.args.text.now)) is)
-    (Steps.script_goes style c.in-Script.script c.in_ok-value-in-Script.value rest (opens c.args.elements.now.items) (string_bytes c.args.text.now) x.0 x.2 x.3 (x.1 q style (record { names = at.names; style_is = at.style_is })) a.0
+    (Steps.script_goes style c.in-Bracket.bracket c.in_ok-value-in-Bracket.value rest (opens c.args.elements.now.items) (string_bytes c.args.text.now) x.0 x.2 x.3 (x.1 q style (record { names = at.names; style_is = at.style_is })) a.0
     (at_prog (ap (parts rest (opens c.args.elements.now.items)) (sym a.1)) run)))
     (λ e b q style at rest. at_prog (ap (λ (y : Part). parts (y ∷ rest) (opens c.args.elements.now.items) (string_bytes c.args.text.now)) is)
-    (Steps.script_long style c.in-Script.script c.in_ok-value-in-Script.value rest (opens c.args.elements.now.items) (string_bytes c.args.text.now) x.0 x.2 x.3 (x.1 q style (record { names = at.names; style_is = at.style_is })) b.0 b.1))
+    (Steps.script_long style c.in-Bracket.bracket c.in_ok-value-in-Bracket.value rest (opens c.args.elements.now.items) (string_bytes c.args.text.now) x.0 x.2 x.3 (x.1 q style (record { names = at.names; style_is = at.style_is })) b.0 b.1))
     (λ q style at rest. at_prog (ap (λ (y : Part). parts (y ∷ rest) (opens c.args.elements.now.items) (string_bytes c.args.text.now)) is)
-    (Steps.script_lost style c.in-Script.script rest (opens c.args.elements.now.items) (string_bytes c.args.text.now) (x.1 q style (record { names = at.names; style_is = at.style_is }))))
+    (Steps.script_lost style c.in-Bracket.bracket rest (opens c.args.elements.now.items) (string_bytes c.args.text.now) (x.1 q style (record { names = at.names; style_is = at.style_is }))))
+
+pub evaluation::eval_part-returns-in_ok-value-in-Deep-clause-runs : goal.evaluation::eval_part-returns-in_ok-value-in-Deep-clause-runs
+evaluation::eval_part-returns-in_ok-value-in-Deep-clause-runs g t c =
+    let is : (seen_part c.args.part.now) ≡ part.Script c.in-Deep.script = (ap seen_part c.in-Deep.is) in
+    let x = ran_text c.eval_text.result c.in_ok-value-in-Deep.value (EndsAt (ways g.O.Outside.goes g.O.Outside.loses) c.args.tree.now c.args.outside.now c.args.place (λ style. script c.in-Deep.script) c.eval_text.new.tree c.eval_text.new.outside)
+    c.in_ok-value-in-Deep.ensures.text c.eval_text.ensures.runs in
+    appended _ c.append_value-in-Deep.result c.append_value-in-Deep.ensures.added c.append_value-in-Deep.ensures.refused
+    (λ a q style at rest V z r run. at_prog (ap (λ (y : Part). parts (y ∷ rest) (opens c.args.elements.now.items) (string_bytes c.args.text.now)) is)
+    (Steps.script_goes style c.in-Deep.script c.in_ok-value-in-Deep.value rest (opens c.args.elements.now.items) (string_bytes c.args.text.now) x.0 x.2 x.3 (x.1 q style (record { names = at.names; style_is = at.style_is })) a.0
+    (at_prog (ap (parts rest (opens c.args.elements.now.items)) (sym a.1)) run)))
+    (λ e b q style at rest. at_prog (ap (λ (y : Part). parts (y ∷ rest) (opens c.args.elements.now.items) (string_bytes c.args.text.now)) is)
+    (Steps.script_long style c.in-Deep.script c.in_ok-value-in-Deep.value rest (opens c.args.elements.now.items) (string_bytes c.args.text.now) x.0 x.2 x.3 (x.1 q style (record { names = at.names; style_is = at.style_is })) b.0 b.1))
+    (λ q style at rest. at_prog (ap (λ (y : Part). parts (y ∷ rest) (opens c.args.elements.now.items) (string_bytes c.args.text.now)) is)
+    (Steps.script_lost style c.in-Deep.script rest (opens c.args.elements.now.items) (string_bytes c.args.text.now) (x.1 q style (record { names = at.names; style_is = at.style_is }))))
 
 pub evaluation::eval_part-returns-in-Element-clause-runs : goal.evaluation::eval_part-returns-in-Element-clause-runs
 evaluation::eval_part-returns-in-Element-clause-runs g t c =
     forgets _ _ _ c.open_element.result (both _ _ c.open_element.result c.open_element.ensures.opened c.open_element.ensures.empty) c.open_element.ensures.memory
-    (λ a q style at rest V z r run. at_prog (ap (λ (y : Part). parts (y ∷ rest) (opens c.args.elements.now.items) (string_bytes c.args.text.now)) c.in-Element.is)
+    (λ a q style at rest V z r run. at_prog (ap (λ (y : Part). parts (y ∷ rest) (opens c.args.elements.now.items) (string_bytes c.args.text.now)) (ap seen_part c.in-Element.is))
     (Steps.element_goes style c.in-Element.name rest (opens c.args.elements.now.items) (string_bytes c.args.text.now)
     (at_prog (ap (λ (x : List ℕ). parts rest (record { name = c.in-Element.name; before = string_bytes c.args.text.now } ∷ opens c.args.elements.now.items) x) (sym a.1) ∙ ap (λ (es : List Open). parts rest es (string_bytes c.open_element.new.text)) (sym a.0)) run)))
     (λ q style at rest. stopped)
@@ -470,10 +921,10 @@ pub evaluation::eval_part-returns-in-EndElement-clause-runs : goal.evaluation::e
 evaluation::eval_part-returns-in-EndElement-clause-runs g t c =
     appended _ c.close_element.result c.close_element.ensures.closes c.close_element.ensures.refused
     (λ a q style at rest V z r run. let n = stands (tree_of c.args.tree.now q) (tree_there c.args.tree.now q _ at.names) in
-    at_prog (ap (λ (y : Part). parts (y ∷ rest) (opens c.args.elements.now.items) (string_bytes c.args.text.now)) c.in-EndElement.is)
+    at_prog (ap (λ (y : Part). parts (y ∷ rest) (opens c.args.elements.now.items) (string_bytes c.args.text.now)) (ap seen_part c.in-EndElement.is))
     (Steps.closing_goes style rest (opens c.args.elements.now.items) (opens c.close_element.new.elements.items) (string_bytes c.args.text.now) (string_bytes c.close_element.new.text) n.1 (a q n.0 at.names n.1) run))
     (λ e b q style at rest. let n = stands (tree_of c.args.tree.now q) (tree_there c.args.tree.now q _ at.names) in
-    at_prog (ap (λ (y : Part). parts (y ∷ rest) (opens c.args.elements.now.items) (string_bytes c.args.text.now)) c.in-EndElement.is)
+    at_prog (ap (λ (y : Part). parts (y ∷ rest) (opens c.args.elements.now.items) (string_bytes c.args.text.now)) (ap seen_part c.in-EndElement.is))
     (Steps.closing_ends style rest (opens c.args.elements.now.items) (string_bytes c.args.text.now) n.1 (b q n.0 at.names n.1)))
     (λ q style at rest. stopped)
 
@@ -482,14 +933,14 @@ evaluation::substitute-returns-in_err-eval_part-clause-runs g t c =
     let item = item_on c.args.parts.now c.parts.part-index c.part-item.result c.parts-test.true c.part-item.is in
     let p = err_from_is_err_and c.from_residual.result c.from_residual.ensures.1 in
     ran_err c.from_residual.result c.in_err-eval_part.field-0.0 p.0 _ _ _ p.1 p.2 c.in_err-eval_part.ensures.runs
-    (λ e h q style at. c.parts.invariant.leads q style at _ _ _ (at_prog (ap (λ (ps : List Part). parts ps (opens c.parts.elements.items) (string_bytes c.parts.text)) item)
+    (λ e h q style at. c.parts.invariant.leads q style at _ _ _ (at_prog (ap (λ (ps : List PreparedPart). parts (map seen_part ps) (opens c.parts.elements.items) (string_bytes c.parts.text)) item)
     (h q style (still_at c.args.tree.now c.parts.tree c.args.place q style c.parts.invariant.here at) _)))
 
 pub evaluation::substitute-parts-preserved : goal.evaluation::substitute-parts-preserved
 evaluation::substitute-parts-preserved g t c =
     let item = item_on c.args.parts.now c.parts.part-index c.part-item.result c.parts-test.true c.part-item.is in
     record {
-      leads = λ q style at V z r run. c.parts.invariant.leads q style at _ _ _ (at_prog (ap (λ (ps : List Part). parts ps (opens c.parts.elements.items) (string_bytes c.parts.text)) item)
+      leads = λ q style at V z r run. c.parts.invariant.leads q style at _ _ _ (at_prog (ap (λ (ps : List PreparedPart). parts (map seen_part ps) (opens c.parts.elements.items) (string_bytes c.parts.text)) item)
           (c.in_ok-eval_part.ensures.runs q style (still_at c.args.tree.now c.parts.tree c.args.place q style c.parts.invariant.here at) _ V z r run));
       short = c.in_ok-eval_part.ensures.short;
       here = here-trans c.args.tree.now c.parts.tree c.eval_part.new.tree c.args.place c.parts.invariant.here c.in_ok-eval_part.ensures.here;
@@ -504,7 +955,7 @@ evaluation::substitute-returns-in_err-from_string-clause-runs g t c =
 pub evaluation::substitute-returns-clause-runs : goal.evaluation::substitute-returns-clause-runs
 evaluation::substitute-returns-clause-runs g t c = λ q style at.
     let none = none_on c.args.parts.now c.parts.part-index c.parts-test.false in
-    c.parts.invariant.leads q style at _ _ _ (at_prog (ap (λ (ps : List Part). parts ps (opens c.parts.elements.items) (string_bytes c.parts.text)) none)
+    c.parts.invariant.leads q style at _ _ _ (at_prog (ap (λ (ps : List PreparedPart). parts (map seen_part ps) (opens c.parts.elements.items) (string_bytes c.parts.text)) none)
     (at_reply (ap (λ (x : List ℕ). Completed (ok x)) (c.from_short_text.ensures ∙ c.in_ok-from_string.ensures)) completed))
 
 -- calls of procedures
@@ -706,24 +1157,6 @@ crossing::call_target-returns-clause-keeps g t c = record {
 
 -- what stays as it is
 
-pub evaluation::eval_command-eval_word-requires : goal.evaluation::eval_command-eval_word-requires
-evaluation::eval_command-eval_word-requires g t c κs within = (search rules, (search rules, still_running c.args.tree.now c.words.tree c.args.place c.words.invariant.here c.requires.running))
-
-pub evaluation::eval_command-returns-in_err-text-clause-keeps : goal.evaluation::eval_command-returns-in_err-text-clause-keeps
-evaluation::eval_command-returns-in_err-text-clause-keeps g t c = keeps-trans c.words.invariant.keeps c.eval_word.ensures.keeps
-
-pub evaluation::eval_command-returns-in_err-spread-clause-keeps : goal.evaluation::eval_command-returns-in_err-spread-clause-keeps
-evaluation::eval_command-returns-in_err-spread-clause-keeps g t c = keeps-trans c.words.invariant.keeps c.eval_word.ensures.keeps
-
-pub evaluation::eval_command-call-requires : goal.evaluation::eval_command-call-requires
-evaluation::eval_command-call-requires g t c κs within = (search rules, (search rules, still_running c.args.tree.now c.charge.new.tree c.args.place (here-trans c.args.tree.now c.words.tree c.charge.new.tree c.args.place c.words.invariant.here (level_here _ _ c.args.place c.charge.ensures.level)) c.requires.running))
-
-pub evaluation::eval_command-returns-in_err-charge-clause-keeps : goal.evaluation::eval_command-returns-in_err-charge-clause-keeps
-evaluation::eval_command-returns-in_err-charge-clause-keeps g t c = keeps-trans c.words.invariant.keeps (charged_keeps c.charge.ensures.level c.charge.ensures.left)
-
-pub evaluation::eval_command-returns-clause-keeps : goal.evaluation::eval_command-returns-clause-keeps
-evaluation::eval_command-returns-clause-keeps g t c = keeps-trans c.words.invariant.keeps (keeps-trans (charged_keeps c.charge.ensures.level c.charge.ensures.left) c.call.ensures.keeps)
-
 pub evaluation::eval_commands-returns-in_err-last-clause-keeps : goal.evaluation::eval_commands-returns-in_err-last-clause-keeps
 evaluation::eval_commands-returns-in_err-last-clause-keeps g t c = keeps-trans c.commands.invariant.keeps c.eval_command.ensures.keeps
 
@@ -873,6 +1306,92 @@ crossing::invoke_at-returns-clause-runs g t c =
     hidden_global style (tree_of c.args.tree.now) c.args.is_global c.args.words.now e yes n.1 (c.in_ok-set_aside.ensures.aside q n.0 at.names n.1) (c.bring_back.ensures.back q n.0.depth (subst (λ (d : ℕ). Holds c.call_hidden-ended.new.tree c.args.place q d) (ap depth_of n.1) (steady_holds c.args.tree.now c.call_hidden-ended.new.tree c.args.place q (steady-trans c.args.tree.now c.set_aside.new.tree c.call_hidden-ended.new.tree (level_steady c.args.tree.now c.set_aside.new.tree c.set_aside.ensures.level) c.call_hidden-ended.ensures.keeps.steady) at.names at.running)))
     (h q style here)) c.call_hidden-ended.ensures.runs
 
+-- # Words among the operands of expressions
+
+pub operands::eval_lone_operand-returns-in_err-clone-in-Literal-clause-runs : goal.operands::eval_lone_operand-returns-in_err-clone-in-Literal-clause-runs
+operands::eval_lone_operand-returns-in_err-clone-in-Literal-clause-runs g t c =
+    let p = err_from_is_err_and c.from_residual.result c.from_residual.ensures.1 in
+    memory_err c.from_residual.result p.0 _ _ p.1 p.2 (λ q style at. stopped)
+
+pub operands::eval_lone_operand-returns-in_ok-clone-in-Literal-clause-runs : goal.operands::eval_lone_operand-returns-in_ok-clone-in-Literal-clause-runs
+operands::eval_lone_operand-returns-in_ok-clone-in-Literal-clause-runs g t c =
+    let is : c.args.part.now ≡ part.Literal c.in_ok-clone-in-Literal.field-0 = c.in-Literal.is ∙ ap (λ (text : List ℕ). part.Literal text) (sym c.in_ok-clone-in-Literal.ensures.cases) in
+    ran c.within.result (TextEnds c.in_ok-clone-in-Literal.field-0) (EndsFrom (ways g.O.Outside.goes g.O.Outside.loses) c.args.tree.now c.args.outside.now c.args.place (λ style. parts (c.args.part.now ∷ []) [] []) c.args.tree.now c.args.outside.now)
+    (λ e h q style at. Steps.lone_literal style c.args.part.now c.in_ok-clone-in-Literal.field-0 e is h) (λ q style at. stopped) (text_ends c.within.result c.in_ok-clone-in-Literal.field-0 c.within.ensures.whole c.within.ensures.refused)
+
+pub operands::eval_lone_operand-returns-in-Variable-clause-runs : goal.operands::eval_lone_operand-returns-in-Variable-clause-runs
+operands::eval_lone_operand-returns-in-Variable-clause-runs g t c =
+    ran c.read_variable.result (λ e. (p : Path) (n : Node Own) → Names c.args.tree.now c.args.place p → tree_of c.args.tree.now p ≡ Some n → VariableEnds c.in-Variable.name n e)
+    (EndsFrom (ways g.O.Outside.goes g.O.Outside.loses) c.args.tree.now c.args.outside.now c.args.place (λ style. parts (c.args.part.now ∷ []) [] []) c.args.tree.now c.args.outside.now)
+    (λ e h q style at. let n = stands (tree_of c.args.tree.now q) (tree_there c.args.tree.now q _ at.names) in Steps.lone_variable style c.args.part.now c.in-Variable.name e c.in-Variable.is n.1 (h q n.0 at.names n.1))
+    (λ q style at. stopped)
+    (IfEnded-at c.read_variable.result c.args.tree.now c.args.place (VariableEnds c.in-Variable.name) (λ p n at there. variable_ends c.read_variable.result c.in-Variable.name n c.read_variable.ensures.short (c.read_variable.ensures.read p n at there)))
+
+pub operands::eval_lone_operand-returns-in-Element-clause-runs : goal.operands::eval_lone_operand-returns-in-Element-clause-runs
+operands::eval_lone_operand-returns-in-Element-clause-runs g t c = λ q style at.
+    at_prog (ap (λ (y : Part). parts (y ∷ []) [] []) c.in-Element.is) (Steps.element_goes style c.in-Element.field-0 [] [] [] (at_reply (ap (λ (x : List ℕ). Completed (ok x)) c.empty.ensures) completed))
+
+pub operands::eval_lone_operand-returns-in-EndElement-clause-runs : goal.operands::eval_lone_operand-returns-in-EndElement-clause-runs
+operands::eval_lone_operand-returns-in-EndElement-clause-runs g t c = λ q style at.
+    at_prog (ap (λ (y : Part). parts (y ∷ []) [] []) c.in-EndElement.is) (at_reply (ap (λ (x : List ℕ). Completed (ok x)) c.empty-in-EndElement.ensures) completed)
+
+pub operands::eval_lone_operand-returns-in_err-value-in-Script-clause-runs : goal.operands::eval_lone_operand-returns-in_err-value-in-Script-clause-runs
+operands::eval_lone_operand-returns-in_err-value-in-Script-clause-runs g t c =
+    let is : c.args.part.now ≡ part.Script c.in-Script.script = c.in-Script.is in
+    let p = err_from_is_err_and c.from_residual-in_err-value-in-Script.result c.from_residual-in_err-value-in-Script.ensures.1 in
+    ran_err c.from_residual-in_err-value-in-Script.result c.in_err-value-in-Script.field-0.0 p.0 _ _ _ p.1 p.2
+    (stays_of c.eval_text.result c.in_err-value-in-Script.field-0.0
+    (EndsAt (ways g.O.Outside.goes g.O.Outside.loses) c.args.tree.now c.args.outside.now c.args.place (λ style. script c.in-Script.script) c.eval_text.new.tree c.eval_text.new.outside)
+    c.in_err-value-in-Script.ensures.same c.eval_text.ensures.runs c.in_err-value-in-Script.ensures.stays)
+    (λ e h q style at. Steps.lone_stays style c.args.part.now c.in-Script.script e [] [] [] is h.1 (h.0 q style (record { names = at.names; style_is = at.style_is })))
+
+pub operands::eval_lone_operand-returns-in_ok-value-in-Script-clause-runs : goal.operands::eval_lone_operand-returns-in_ok-value-in-Script-clause-runs
+operands::eval_lone_operand-returns-in_ok-value-in-Script-clause-runs g t c =
+    let is : c.args.part.now ≡ part.Script c.in-Script.script = c.in-Script.is in
+    let x = ran_text c.eval_text.result c.in_ok-value-in-Script.value (EndsAt (ways g.O.Outside.goes g.O.Outside.loses) c.args.tree.now c.args.outside.now c.args.place (λ style. script c.in-Script.script) c.eval_text.new.tree c.eval_text.new.outside)
+    c.in_ok-value-in-Script.ensures.text c.eval_text.ensures.runs in
+    λ q style at. Steps.lone_script style c.args.part.now c.in-Script.script c.known_short.result x.0 is x.2 (x.3 ∙ sym c.known_short.ensures.same)
+    (ap fits c.known_short.ensures.same ∙ c.known_short.ensures.short) (x.1 q style (record { names = at.names; style_is = at.style_is }))
+
+pub operands::eval_lone_operand-returns-in_ok-clone-in-Literal-clause-here : goal.operands::eval_lone_operand-returns-in_ok-clone-in-Literal-clause-here
+operands::eval_lone_operand-returns-in_ok-clone-in-Literal-clause-here g t c = unmoved c.within.result c.args.tree.now c.args.place
+
+pub operands::eval_lone_operand-returns-in-Variable-clause-here : goal.operands::eval_lone_operand-returns-in-Variable-clause-here
+operands::eval_lone_operand-returns-in-Variable-clause-here g t c = unmoved c.read_variable.result c.args.tree.now c.args.place
+
+pub operands::eval_lone_operand-returns-in_err-value-in-Script-clause-here : goal.operands::eval_lone_operand-returns-in_err-value-in-Script-clause-here
+operands::eval_lone_operand-returns-in_err-value-in-Script-clause-here g t c =
+    let p = err_from_is_err_and c.from_residual-in_err-value-in-Script.result c.from_residual-in_err-value-in-Script.ensures.1 in
+    here_passed c.from_residual-in_err-value-in-Script.result c.eval_text.result c.in_err-value-in-Script.field-0.0 p.0 c.args.tree.now c.args.tree.now c.eval_text.new.tree c.args.place p.1 p.2 c.in_err-value-in-Script.ensures.same (here-refl c.args.tree.now c.args.place) c.eval_text.ensures.here
+
+pub operands::eval_lone_operand-returns-in_ok-value-in-Script-clause-here : goal.operands::eval_lone_operand-returns-in_ok-value-in-Script-clause-here
+operands::eval_lone_operand-returns-in_ok-value-in-Script-clause-here g t c = here_text c.eval_text.result c.in_ok-value-in-Script.value c.args.tree.now c.eval_text.new.tree c.args.place c.in_ok-value-in-Script.ensures.text c.eval_text.ensures.here
+
+pub operands::eval_lone_operand-returns-in_err-clone-in-Literal-clause-here : goal.operands::eval_lone_operand-returns-in_err-clone-in-Literal-clause-here
+operands::eval_lone_operand-returns-in_err-clone-in-Literal-clause-here g t c = unmoved c.from_residual.result c.args.tree.now c.args.place
+
+pub operands::eval_lone_operand-returns-in-Element-clause-here : goal.operands::eval_lone_operand-returns-in-Element-clause-here
+operands::eval_lone_operand-returns-in-Element-clause-here g t c = here-refl c.args.tree.now c.args.place
+
+pub operands::eval_lone_operand-returns-in-EndElement-clause-here : goal.operands::eval_lone_operand-returns-in-EndElement-clause-here
+operands::eval_lone_operand-returns-in-EndElement-clause-here g t c = here-refl c.args.tree.now c.args.place
+
+pub operands::substitute_read-returns-in_err-prepared-clause-runs : goal.operands::substitute_read-returns-in_err-prepared-clause-runs
+operands::substitute_read-returns-in_err-prepared-clause-runs g t c =
+    let p = err_from_is_err_and c.from_residual.result c.from_residual.ensures.1 in
+    memory_err c.from_residual.result p.0 _ _ p.1 p.2 (λ q style at. stopped)
+
+pub operands::substitute_read-returns-in_err-prepared-clause-here : goal.operands::substitute_read-returns-in_err-prepared-clause-here
+operands::substitute_read-returns-in_err-prepared-clause-here g t c = unmoved c.from_residual.result c.args.tree.now c.args.place
+
+pub operands::substitute_read-returns-clause-runs : goal.operands::substitute_read-returns-clause-runs
+operands::substitute_read-returns-clause-runs g t c =
+    let same : map seen_part c.as_slice.result.now ≡ c.args.parts.now = ap (map seen_part) c.as_slice.ensures.value ∙ c.in_ok-prepared.ensures in
+    IfRan-more c.substitute.result
+    (EndsFrom (ways g.O.Outside.goes g.O.Outside.loses) c.args.tree.now c.args.outside.now c.args.place (λ style. parts (map seen_part c.as_slice.result.now) [] []) c.substitute.new.tree c.substitute.new.outside)
+    (EndsFrom (ways g.O.Outside.goes g.O.Outside.loses) c.args.tree.now c.args.outside.now c.args.place (λ style. parts c.args.parts.now [] []) c.substitute.new.tree c.substitute.new.outside)
+    (λ e h q style at. at_prog (ap (λ (ps : List Part). parts ps [] []) (sym same)) (h q style at)) c.substitute.ensures.runs
+
 -- # Expressions, and the commands with conditions
 
 pub expressions::expression-returns-in_err-word-clause-runs : goal.expressions::expression-returns-in_err-word-clause-runs
@@ -891,8 +1410,8 @@ expressions::expression-returns-in_err-value-in-Wants-clause-runs g t c =
     ≡ substitute c.in-Wants.word.now (λ v. from c.integers-style.result c.args.kept.now.nodes.items c.next_part.new.evaluation.next (c.next_part.new.evaluation.values.items ++ v ∷ [])) = search rules in
     let p = err_from_is_err_and c.from_residual-in_err-value-in-Wants.result c.from_residual-in_err-value-in-Wants.ensures.1 in
     ran_err c.from_residual-in_err-value-in-Wants.result c.in_err-value-in-Wants.field-0.0 p.0 _ _ _ p.1 p.2
-    (stays_of c.eval_word.result c.in_err-value-in-Wants.field-0.0 (EndsFrom (ways g.O.Outside.goes g.O.Outside.loses) c.parts.tree c.parts.outside c.args.place (λ style. parts c.in-Wants.word.now.parts [] []) c.eval_word.new.tree c.eval_word.new.outside)
-    c.in_err-value-in-Wants.ensures.same c.eval_word.ensures.runs c.in_err-value-in-Wants.ensures.stays)
+    (stays_of c.eval_operand.result c.in_err-value-in-Wants.field-0.0 (EndsFrom (ways g.O.Outside.goes g.O.Outside.loses) c.parts.tree c.parts.outside c.args.place (λ style. parts c.in-Wants.word.now.parts [] []) c.eval_operand.new.tree c.eval_operand.new.outside)
+    c.in_err-value-in-Wants.ensures.same c.eval_operand.ensures.runs c.in_err-value-in-Wants.ensures.stays)
     (λ e h q style at text is.
     let same = c.integers-style.ensures ∙ at.style_is in
     c.parts.invariant.leads q style at text is _ _ _
@@ -903,8 +1422,8 @@ pub expressions::expression-returns-in_err-supply-in-Wants-clause-runs : goal.ex
 expressions::expression-returns-in_err-supply-in-Wants-clause-runs g t c =
     let wants : from c.integers-style.result c.args.kept.now.nodes.items c.parts.evaluation.next c.parts.evaluation.values.items
     ≡ substitute c.in-Wants.word.now (λ v. from c.integers-style.result c.args.kept.now.nodes.items c.next_part.new.evaluation.next (c.next_part.new.evaluation.values.items ++ v ∷ [])) = search rules in
-    let x = ran_text c.eval_word.result c.in_ok-value-in-Wants.value (EndsFrom (ways g.O.Outside.goes g.O.Outside.loses) c.parts.tree c.parts.outside c.args.place (λ style. parts c.in-Wants.word.now.parts [] []) c.eval_word.new.tree c.eval_word.new.outside)
-    c.in_ok-value-in-Wants.ensures.text c.eval_word.ensures.runs in
+    let x = ran_text c.eval_operand.result c.in_ok-value-in-Wants.value (EndsFrom (ways g.O.Outside.goes g.O.Outside.loses) c.parts.tree c.parts.outside c.args.place (λ style. parts c.in-Wants.word.now.parts [] []) c.eval_operand.new.tree c.eval_operand.new.outside)
+    c.in_ok-value-in-Wants.ensures.text c.eval_operand.ensures.runs in
     let p = err_from_is_err_and c.from_residual-in_err-supply-in-Wants.result c.from_residual-in_err-supply-in-Wants.ensures.1 in
     memory_err c.from_residual-in_err-supply-in-Wants.result p.0 _ _ p.1 p.2
     (λ q style at text is.
@@ -928,8 +1447,8 @@ pub expressions::expression-parts-preserved : goal.expressions::expression-parts
 expressions::expression-parts-preserved g t c =
     let wants : from c.integers-style.result c.args.kept.now.nodes.items c.parts.evaluation.next c.parts.evaluation.values.items
     ≡ substitute c.in-Wants.word.now (λ v. from c.integers-style.result c.args.kept.now.nodes.items c.next_part.new.evaluation.next (c.next_part.new.evaluation.values.items ++ v ∷ [])) = search rules in
-    let x = ran_text c.eval_word.result c.in_ok-value-in-Wants.value (EndsFrom (ways g.O.Outside.goes g.O.Outside.loses) c.parts.tree c.parts.outside c.args.place (λ style. parts c.in-Wants.word.now.parts [] []) c.eval_word.new.tree c.eval_word.new.outside)
-    c.in_ok-value-in-Wants.ensures.text c.eval_word.ensures.runs in
+    let x = ran_text c.eval_operand.result c.in_ok-value-in-Wants.value (EndsFrom (ways g.O.Outside.goes g.O.Outside.loses) c.parts.tree c.parts.outside c.args.place (λ style. parts c.in-Wants.word.now.parts [] []) c.eval_operand.new.tree c.eval_operand.new.outside)
+    c.in_ok-value-in-Wants.ensures.text c.eval_operand.ensures.runs in
     record {
       leads = λ q style at text is V z r run.
           let same = c.integers-style.ensures ∙ at.style_is in
@@ -937,8 +1456,8 @@ expressions::expression-parts-preserved g t c =
           (Conditions.wants_part style c.integers-style.result c.args.kept.now.nodes.items c.parts.evaluation.next c.next_part.new.evaluation.next c.parts.evaluation.values.items c.next_part.new.evaluation.values.items c.in-Wants.word.now same wants
           (Conditions.part_goes style c.in-Wants.word.now (λ v. from style c.args.kept.now.nodes.items c.next_part.new.evaluation.next (c.next_part.new.evaluation.values.items ++ v ∷ [])) (settles style) x.0 c.in_ok-value-in-Wants.value x.2 x.3 (x.1 q style (still_at c.args.tree.now c.parts.tree c.args.place q style c.parts.invariant.here at))
           (at_prog (λ i. computed (from style c.args.kept.now.nodes.items (sym c.in_ok-supply-in-Wants.ensures.next i) (sym c.in_ok-supply-in-Wants.ensures.values i)) (settles style)) run)));
-      here = here-trans c.args.tree.now c.parts.tree c.eval_word.new.tree c.args.place c.parts.invariant.here (here_text c.eval_word.result c.in_ok-value-in-Wants.value c.parts.tree c.eval_word.new.tree c.args.place c.in_ok-value-in-Wants.ensures.text c.eval_word.ensures.here);
-      keeps = keeps-trans c.parts.invariant.keeps c.eval_word.ensures.keeps;
+      here = here-trans c.args.tree.now c.parts.tree c.eval_operand.new.tree c.args.place c.parts.invariant.here (here_text c.eval_operand.result c.in_ok-value-in-Wants.value c.parts.tree c.eval_operand.new.tree c.args.place c.in_ok-value-in-Wants.ensures.text c.eval_operand.ensures.here);
+      keeps = keeps-trans c.parts.invariant.keeps c.eval_operand.ensures.keeps;
     }
 
 pub expressions::condition-returns-in_err-value-clause-runs : goal.expressions::condition-returns-in_err-value-clause-runs
@@ -2594,9 +3113,6 @@ crossing::invoke_at-returns-clause-here g t c = here_level c.call_hidden-ended.r
 pub crossing::invoke_at-call_hidden-ended-requires : goal.crossing::invoke_at-call_hidden-ended-requires
 crossing::invoke_at-call_hidden-ended-requires g t c κs within = (search rules, (search rules, still_running c.args.tree.now c.set_aside.new.tree c.args.place (level_here c.args.tree.now c.set_aside.new.tree c.args.place c.set_aside.ensures.level) c.requires))
 
-pub evaluation::eval_command-charge-requires : goal.evaluation::eval_command-charge-requires
-evaluation::eval_command-charge-requires g t c = (c.requires.running.0, still_named c.args.tree.now c.words.tree c.args.place c.requires.running.0 c.words.invariant.here c.requires.running.1)
-
 pub control::catch-keep_caught-requires : goal.control::catch-keep_caught-requires
 control::catch-keep_caught-requires g t c = (c.requires.0, still_named c.args.tree.now c.eval_value.new.tree c.args.place c.requires.0 (here_caught c.eval_value.result c.caught.result c.in_ok-completion.completion c.args.tree.now c.eval_value.new.tree c.args.place c.in_ok-completion.was c.caught.ensures c.eval_value.ensures.here) c.requires.1)
 
@@ -2627,31 +3143,14 @@ collecting::lmap-eval_value-ended-requires g t c κs within = (search rules, (se
 pub evaluation::eval_commands-eval_command-requires : goal.evaluation::eval_commands-eval_command-requires
 evaluation::eval_commands-eval_command-requires g t c κs within = (search rules, (search rules, still_running c.args.tree.now c.commands.tree c.args.place c.commands.invariant.here c.requires.running))
 
-pub expressions::expression-eval_word-requires : goal.expressions::expression-eval_word-requires
-expressions::expression-eval_word-requires g t c κs within = (search rules, (search rules, still_running c.args.tree.now c.parts.tree c.args.place c.parts.invariant.here c.requires))
+pub expressions::expression-eval_operand-requires : goal.expressions::expression-eval_operand-requires
+expressions::expression-eval_operand-requires g t c κs within = (search rules, (search rules, still_running c.args.tree.now c.parts.tree c.args.place c.parts.invariant.here c.requires))
 
 pub expressions::while_loop-turn-requires : goal.expressions::while_loop-turn-requires
 expressions::while_loop-turn-requires g t c κs within = (search rules, (search rules, still_running c.args.tree.now c.turns.tree c.args.place c.turns.invariant.here c.requires))
 
 pub expressions::if_first-eval_value-requires-2 : goal.expressions::if_first-eval_value-requires-2
 expressions::if_first-eval_value-requires-2 g t c κs within = (search rules, (search rules, (c.requires.0, still_named c.args.tree.now c.tests.tree c.args.place c.requires.0 c.tests.invariant.here c.requires.1)))
-
-pub evaluation::eval_command-returns-in_err-text-clause-here : goal.evaluation::eval_command-returns-in_err-text-clause-here
-evaluation::eval_command-returns-in_err-text-clause-here g t c =
-    let p = err_from_is_err_and c.from_residual-in_err-text.result c.from_residual-in_err-text.ensures.1 in
-    here_passed c.from_residual-in_err-text.result c.eval_word.result c.in_err-text.field-0.0 p.0 c.args.tree.now c.words.tree c.eval_word.new.tree c.args.place p.1 p.2 c.in_err-text.ensures.same c.words.invariant.here c.eval_word.ensures.here
-
-pub evaluation::eval_command-returns-in_err-spread-clause-here : goal.evaluation::eval_command-returns-in_err-spread-clause-here
-evaluation::eval_command-returns-in_err-spread-clause-here g t c = on_completion c.from_residual-in_err-spread.result (IsHere c.args.tree.now c.eval_word.new.tree c.args.place) (here-trans c.args.tree.now c.words.tree c.eval_word.new.tree c.args.place c.words.invariant.here (here_text c.eval_word.result c.in_ok-text.text c.words.tree c.eval_word.new.tree c.args.place c.in_ok-text.ensures.text c.eval_word.ensures.here))
-
-pub evaluation::eval_command-returns-then-is_empty-clause-here : goal.evaluation::eval_command-returns-then-is_empty-clause-here
-evaluation::eval_command-returns-then-is_empty-clause-here g t c = c.words.invariant.here
-
-pub evaluation::eval_command-returns-in_err-charge-clause-here : goal.evaluation::eval_command-returns-in_err-charge-clause-here
-evaluation::eval_command-returns-in_err-charge-clause-here g t c = on_completion c.from_residual-in_err-charge.result (IsHere c.args.tree.now c.charge.new.tree c.args.place) (here-trans c.args.tree.now c.words.tree c.charge.new.tree c.args.place c.words.invariant.here (level_here c.words.tree c.charge.new.tree c.args.place c.charge.ensures.level))
-
-pub evaluation::eval_command-returns-clause-here : goal.evaluation::eval_command-returns-clause-here
-evaluation::eval_command-returns-clause-here g t c = here_then c.call.result c.args.tree.now c.charge.new.tree c.call.new.tree c.args.place (here-trans c.args.tree.now c.words.tree c.charge.new.tree c.args.place c.words.invariant.here (level_here c.words.tree c.charge.new.tree c.args.place c.charge.ensures.level)) c.call.ensures.here
 
 pub evaluation::eval_commands-returns-in_err-last-clause-here : goal.evaluation::eval_commands-returns-in_err-last-clause-here
 evaluation::eval_commands-returns-in_err-last-clause-here g t c =
@@ -2665,15 +3164,23 @@ pub evaluation::eval_lone_part-returns-in_ok-clone-in-Literal-clause-here : goal
 evaluation::eval_lone_part-returns-in_ok-clone-in-Literal-clause-here g t c = unmoved c.within.result c.args.tree.now c.args.place
 
 pub evaluation::eval_lone_part-returns-in-Variable-clause-here : goal.evaluation::eval_lone_part-returns-in-Variable-clause-here
-evaluation::eval_lone_part-returns-in-Variable-clause-here g t c = unmoved c.read_variable.result c.args.tree.now c.args.place
+evaluation::eval_lone_part-returns-in-Variable-clause-here g t c = unmoved c.read_named.result c.args.tree.now c.args.place
 
-pub evaluation::eval_lone_part-returns-in_err-value-in-Script-clause-here : goal.evaluation::eval_lone_part-returns-in_err-value-in-Script-clause-here
-evaluation::eval_lone_part-returns-in_err-value-in-Script-clause-here g t c =
-    let p = err_from_is_err_and c.from_residual-in_err-value-in-Script.result c.from_residual-in_err-value-in-Script.ensures.1 in
-    here_passed c.from_residual-in_err-value-in-Script.result c.eval_text.result c.in_err-value-in-Script.field-0.0 p.0 c.args.tree.now c.args.tree.now c.eval_text.new.tree c.args.place p.1 p.2 c.in_err-value-in-Script.ensures.same (here-refl c.args.tree.now c.args.place) c.eval_text.ensures.here
+pub evaluation::eval_lone_part-returns-in_err-value-in-Bracket-clause-here : goal.evaluation::eval_lone_part-returns-in_err-value-in-Bracket-clause-here
+evaluation::eval_lone_part-returns-in_err-value-in-Bracket-clause-here g t c =
+    let p = err_from_is_err_and c.from_residual-in_err-value-in-Bracket.result c.from_residual-in_err-value-in-Bracket.ensures.1 in
+    here_passed c.from_residual-in_err-value-in-Bracket.result c.eval_bracket.result c.in_err-value-in-Bracket.field-0.0 p.0 c.args.tree.now c.args.tree.now c.eval_bracket.new.tree c.args.place p.1 p.2 c.in_err-value-in-Bracket.ensures.same (here-refl c.args.tree.now c.args.place) c.eval_bracket.ensures.here
 
-pub evaluation::eval_lone_part-returns-in_ok-value-in-Script-clause-here : goal.evaluation::eval_lone_part-returns-in_ok-value-in-Script-clause-here
-evaluation::eval_lone_part-returns-in_ok-value-in-Script-clause-here g t c = here_text c.eval_text.result c.in_ok-value-in-Script.value c.args.tree.now c.eval_text.new.tree c.args.place c.in_ok-value-in-Script.ensures.text c.eval_text.ensures.here
+pub evaluation::eval_lone_part-returns-in_err-value-in-Deep-clause-here : goal.evaluation::eval_lone_part-returns-in_err-value-in-Deep-clause-here
+evaluation::eval_lone_part-returns-in_err-value-in-Deep-clause-here g t c =
+    let p = err_from_is_err_and c.from_residual-in_err-value-in-Deep.result c.from_residual-in_err-value-in-Deep.ensures.1 in
+    here_passed c.from_residual-in_err-value-in-Deep.result c.eval_text.result c.in_err-value-in-Deep.field-0.0 p.0 c.args.tree.now c.args.tree.now c.eval_text.new.tree c.args.place p.1 p.2 c.in_err-value-in-Deep.ensures.same (here-refl c.args.tree.now c.args.place) c.eval_text.ensures.here
+
+pub evaluation::eval_lone_part-returns-in_ok-value-in-Bracket-clause-here : goal.evaluation::eval_lone_part-returns-in_ok-value-in-Bracket-clause-here
+evaluation::eval_lone_part-returns-in_ok-value-in-Bracket-clause-here g t c = here_text c.eval_bracket.result c.in_ok-value-in-Bracket.value c.args.tree.now c.eval_bracket.new.tree c.args.place c.in_ok-value-in-Bracket.ensures.text c.eval_bracket.ensures.here
+
+pub evaluation::eval_lone_part-returns-in_ok-value-in-Deep-clause-here : goal.evaluation::eval_lone_part-returns-in_ok-value-in-Deep-clause-here
+evaluation::eval_lone_part-returns-in_ok-value-in-Deep-clause-here g t c = here_text c.eval_text.result c.in_ok-value-in-Deep.value c.args.tree.now c.eval_text.new.tree c.args.place c.in_ok-value-in-Deep.ensures.text c.eval_text.ensures.here
 
 pub evaluation::eval_part-returns-in_ok-value-in-Variable-clause-here : goal.evaluation::eval_part-returns-in_ok-value-in-Variable-clause-here
 evaluation::eval_part-returns-in_ok-value-in-Variable-clause-here g t c = unmoved c.append_value.result c.args.tree.now c.args.place
@@ -2687,13 +3194,21 @@ evaluation::eval_part-returns-in-Element-clause-here g t c = unmoved c.open_elem
 pub evaluation::eval_part-returns-in-EndElement-clause-here : goal.evaluation::eval_part-returns-in-EndElement-clause-here
 evaluation::eval_part-returns-in-EndElement-clause-here g t c = unmoved c.close_element.result c.args.tree.now c.args.place
 
-pub evaluation::eval_part-returns-in_err-value-in-Script-clause-here : goal.evaluation::eval_part-returns-in_err-value-in-Script-clause-here
-evaluation::eval_part-returns-in_err-value-in-Script-clause-here g t c =
-    let p = err_from_is_err_and c.from_residual-in_err-value-in-Script.result c.from_residual-in_err-value-in-Script.ensures.1 in
-    here_passed c.from_residual-in_err-value-in-Script.result c.eval_text.result c.in_err-value-in-Script.field-0.0 p.0 c.args.tree.now c.args.tree.now c.eval_text.new.tree c.args.place p.1 p.2 c.in_err-value-in-Script.ensures.same (here-refl c.args.tree.now c.args.place) c.eval_text.ensures.here
+pub evaluation::eval_part-returns-in_err-value-in-Bracket-clause-here : goal.evaluation::eval_part-returns-in_err-value-in-Bracket-clause-here
+evaluation::eval_part-returns-in_err-value-in-Bracket-clause-here g t c =
+    let p = err_from_is_err_and c.from_residual-in_err-value-in-Bracket.result c.from_residual-in_err-value-in-Bracket.ensures.1 in
+    here_passed c.from_residual-in_err-value-in-Bracket.result c.eval_bracket.result c.in_err-value-in-Bracket.field-0.0 p.0 c.args.tree.now c.args.tree.now c.eval_bracket.new.tree c.args.place p.1 p.2 c.in_err-value-in-Bracket.ensures.same (here-refl c.args.tree.now c.args.place) c.eval_bracket.ensures.here
 
-pub evaluation::eval_part-returns-in_ok-value-in-Script-clause-here : goal.evaluation::eval_part-returns-in_ok-value-in-Script-clause-here
-evaluation::eval_part-returns-in_ok-value-in-Script-clause-here g t c = on_completion c.append_value-in-Script.result (IsHere c.args.tree.now c.eval_text.new.tree c.args.place) (here_text c.eval_text.result c.in_ok-value-in-Script.value c.args.tree.now c.eval_text.new.tree c.args.place c.in_ok-value-in-Script.ensures.text c.eval_text.ensures.here)
+pub evaluation::eval_part-returns-in_err-value-in-Deep-clause-here : goal.evaluation::eval_part-returns-in_err-value-in-Deep-clause-here
+evaluation::eval_part-returns-in_err-value-in-Deep-clause-here g t c =
+    let p = err_from_is_err_and c.from_residual-in_err-value-in-Deep.result c.from_residual-in_err-value-in-Deep.ensures.1 in
+    here_passed c.from_residual-in_err-value-in-Deep.result c.eval_text.result c.in_err-value-in-Deep.field-0.0 p.0 c.args.tree.now c.args.tree.now c.eval_text.new.tree c.args.place p.1 p.2 c.in_err-value-in-Deep.ensures.same (here-refl c.args.tree.now c.args.place) c.eval_text.ensures.here
+
+pub evaluation::eval_part-returns-in_ok-value-in-Bracket-clause-here : goal.evaluation::eval_part-returns-in_ok-value-in-Bracket-clause-here
+evaluation::eval_part-returns-in_ok-value-in-Bracket-clause-here g t c = on_completion c.append_value-in-Bracket.result (IsHere c.args.tree.now c.eval_bracket.new.tree c.args.place) (here_text c.eval_bracket.result c.in_ok-value-in-Bracket.value c.args.tree.now c.eval_bracket.new.tree c.args.place c.in_ok-value-in-Bracket.ensures.text c.eval_bracket.ensures.here)
+
+pub evaluation::eval_part-returns-in_ok-value-in-Deep-clause-here : goal.evaluation::eval_part-returns-in_ok-value-in-Deep-clause-here
+evaluation::eval_part-returns-in_ok-value-in-Deep-clause-here g t c = on_completion c.append_value-in-Deep.result (IsHere c.args.tree.now c.eval_text.new.tree c.args.place) (here_text c.eval_text.result c.in_ok-value-in-Deep.value c.args.tree.now c.eval_text.new.tree c.args.place c.in_ok-value-in-Deep.ensures.text c.eval_text.ensures.here)
 
 pub evaluation::substitute-returns-in_err-eval_part-clause-here : goal.evaluation::substitute-returns-in_err-eval_part-clause-here
 evaluation::substitute-returns-in_err-eval_part-clause-here g t c =
@@ -2768,10 +3283,10 @@ expressions::expression-returns-in_err-word-clause-here g t c = on_completion c.
 pub expressions::expression-returns-in_err-value-in-Wants-clause-here : goal.expressions::expression-returns-in_err-value-in-Wants-clause-here
 expressions::expression-returns-in_err-value-in-Wants-clause-here g t c =
     let p = err_from_is_err_and c.from_residual-in_err-value-in-Wants.result c.from_residual-in_err-value-in-Wants.ensures.1 in
-    here_passed c.from_residual-in_err-value-in-Wants.result c.eval_word.result c.in_err-value-in-Wants.field-0.0 p.0 c.args.tree.now c.parts.tree c.eval_word.new.tree c.args.place p.1 p.2 c.in_err-value-in-Wants.ensures.same c.parts.invariant.here c.eval_word.ensures.here
+    here_passed c.from_residual-in_err-value-in-Wants.result c.eval_operand.result c.in_err-value-in-Wants.field-0.0 p.0 c.args.tree.now c.parts.tree c.eval_operand.new.tree c.args.place p.1 p.2 c.in_err-value-in-Wants.ensures.same c.parts.invariant.here c.eval_operand.ensures.here
 
 pub expressions::expression-returns-in_err-supply-in-Wants-clause-here : goal.expressions::expression-returns-in_err-supply-in-Wants-clause-here
-expressions::expression-returns-in_err-supply-in-Wants-clause-here g t c = on_completion c.from_residual-in_err-supply-in-Wants.result (IsHere c.args.tree.now c.eval_word.new.tree c.args.place) (here-trans c.args.tree.now c.parts.tree c.eval_word.new.tree c.args.place c.parts.invariant.here (here_text c.eval_word.result c.in_ok-value-in-Wants.value c.parts.tree c.eval_word.new.tree c.args.place c.in_ok-value-in-Wants.ensures.text c.eval_word.ensures.here))
+expressions::expression-returns-in_err-supply-in-Wants-clause-here g t c = on_completion c.from_residual-in_err-supply-in-Wants.result (IsHere c.args.tree.now c.eval_operand.new.tree c.args.place) (here-trans c.args.tree.now c.parts.tree c.eval_operand.new.tree c.args.place c.parts.invariant.here (here_text c.eval_operand.result c.in_ok-value-in-Wants.value c.parts.tree c.eval_operand.new.tree c.args.place c.in_ok-value-in-Wants.ensures.text c.eval_operand.ensures.here))
 
 pub expressions::expression-returns-in-Done-clause-here : goal.expressions::expression-returns-in-Done-clause-here
 expressions::expression-returns-in-Done-clause-here g t c = on_completion c.settle.result (IsHere c.args.tree.now c.parts.tree c.args.place) c.parts.invariant.here
@@ -3064,9 +3579,6 @@ crossing::serve_call-returns-in_err-words-clause-here g t c = unmoved c.from_res
 
 pub crossing::serve_hidden-returns-in_err-words-clause-here : goal.crossing::serve_hidden-returns-in_err-words-clause-here
 crossing::serve_hidden-returns-in_err-words-clause-here g t c = unmoved c.from_residual.result c.args.tree.now c.args.place
-
-pub evaluation::eval_command-returns-in_err-words-clause-here : goal.evaluation::eval_command-returns-in_err-words-clause-here
-evaluation::eval_command-returns-in_err-words-clause-here g t c = unmoved c.from_residual.result c.args.tree.now c.args.place
 
 pub evaluation::eval_lone_part-returns-in_err-clone-in-Literal-clause-here : goal.evaluation::eval_lone_part-returns-in_err-clone-in-Literal-clause-here
 evaluation::eval_lone_part-returns-in_err-clone-in-Literal-clause-here g t c = unmoved c.from_residual.result c.args.tree.now c.args.place
@@ -3528,7 +4040,7 @@ waiting::wait-turns-smaller g t c =
     omega arith
 
 pub expressions::expression-returns-in_err-value-in-Wants-clause-keeps : goal.expressions::expression-returns-in_err-value-in-Wants-clause-keeps
-expressions::expression-returns-in_err-value-in-Wants-clause-keeps g t c = keeps-trans c.parts.invariant.keeps c.eval_word.ensures.keeps
+expressions::expression-returns-in_err-value-in-Wants-clause-keeps g t c = keeps-trans c.parts.invariant.keeps c.eval_operand.ensures.keeps
 
 pub expressions::expression-returns-in_err-supply-in-Wants-clause-keeps : goal.expressions::expression-returns-in_err-supply-in-Wants-clause-keeps
-expressions::expression-returns-in_err-supply-in-Wants-clause-keeps g t c = keeps-trans c.parts.invariant.keeps c.eval_word.ensures.keeps
+expressions::expression-returns-in_err-supply-in-Wants-clause-keeps g t c = keeps-trans c.parts.invariant.keeps c.eval_operand.ensures.keeps

@@ -1,4 +1,4 @@
-use Rattle.std.proofs.Common.{◌≡◌, ◌≤◌, ◌+◌, ◌-◌, ◌*◌, ℕ, List, [], drop, get_or, length}
+use Rattle.std.proofs.Common.{◌≡◌, ◌≤◌, ◌+◌, ◌-◌, ◌*◌, ℕ, List, [], drop, get_or, length, map}
 use Rattle.std.specs.Option.{option_copied}
 use Rattle.std.specs.String.{string_bytes}
 use Rattle.tcl_core.specs.Paths.{Path}
@@ -8,6 +8,7 @@ use Rattle.tcl_run.specs.Runs.{IsAt, IsHere, Keeps, room, ways}
 use Rattle.tcl_text.specs.declared.integer.Integers.{Integers}
 use Rattle.tcl_tree.specs.TreeOf.{tree_of}
 use Rattle.tcl_calls.specs.Words.{opens, IsShort}
+use Rattle.tcl_prepared.specs.Views.{seen_command, seen_part, seen_word}
 use Rattle.tcl_expression_evaluation.specs.Steps.{from}
 use Rattle.tcl_language.specs.Expressions.{expression, computed, if_first, first_true, while_loop, while_turns, for_loop, for_turns}
 use Rattle.tcl_language.specs.Control.{foreach_turns, lmap, lmap_turns}
@@ -19,101 +20,125 @@ use Rattle.tcl_evaluation.proofs.Awaited.{WaitsFrom}
 use Rattle.tcl_evaluation.proofs.+eval.Given as goal
 
 abbrev pub decreases-evaluation::eval_script : goal.decreases-evaluation::eval_script
-decreases-evaluation::eval_script g l = 16016 * g.O.Outside.entries_left l.outside.now + 16 * room (tree_of l.tree.now) + 0
+decreases-evaluation::eval_script g l = 32032 * g.O.Outside.entries_left l.outside.now + 32 * room (tree_of l.tree.now) + 0
 
 abbrev pub decreases-evaluation::eval_text : goal.decreases-evaluation::eval_text
-decreases-evaluation::eval_text g l = 16016 * g.O.Outside.entries_left l.outside.now + 16 * room (tree_of l.tree.now) + 1
+decreases-evaluation::eval_text g l = 32032 * g.O.Outside.entries_left l.outside.now + 32 * room (tree_of l.tree.now) + 1
+
+abbrev pub decreases-evaluation::eval_bracket : goal.decreases-evaluation::eval_bracket
+decreases-evaluation::eval_bracket g l = 32032 * g.O.Outside.entries_left l.outside.now + 32 * room (tree_of l.tree.now) + 1
 
 abbrev pub decreases-evaluation::eval_value : goal.decreases-evaluation::eval_value
-decreases-evaluation::eval_value g l = 16016 * g.O.Outside.entries_left l.outside.now + 16 * room (tree_of l.tree.now) + 1
+decreases-evaluation::eval_value g l = 32032 * g.O.Outside.entries_left l.outside.now + 32 * room (tree_of l.tree.now) + 1
 
 abbrev pub decreases-control::eval : goal.decreases-control::eval
-decreases-control::eval g l = 16016 * g.O.Outside.entries_left l.outside.now + 16 * room (tree_of l.tree.now) + 2
+decreases-control::eval g l = 32032 * g.O.Outside.entries_left l.outside.now + 32 * room (tree_of l.tree.now) + 2
 
 abbrev pub decreases-control::catch : goal.decreases-control::catch
-decreases-control::catch g l = 16016 * g.O.Outside.entries_left l.outside.now + 16 * room (tree_of l.tree.now) + 2
+decreases-control::catch g l = 32032 * g.O.Outside.entries_left l.outside.now + 32 * room (tree_of l.tree.now) + 2
 
 abbrev pub decreases-commands::call_procedure : goal.decreases-commands::call_procedure
-decreases-commands::call_procedure g l = 16016 * g.O.Outside.entries_left l.outside.now + 16 * room (tree_of l.tree.now) + 2
+decreases-commands::call_procedure g l = 32032 * g.O.Outside.entries_left l.outside.now + 32 * room (tree_of l.tree.now) + 2
 
 abbrev pub decreases-evaluation::eval_part : goal.decreases-evaluation::eval_part
-decreases-evaluation::eval_part g l = 16016 * g.O.Outside.entries_left l.outside.now + 16 * room (tree_of l.tree.now) + 2
+decreases-evaluation::eval_part g l = 32032 * g.O.Outside.entries_left l.outside.now + 32 * room (tree_of l.tree.now) + 2
 
 abbrev pub decreases-evaluation::eval_lone_part : goal.decreases-evaluation::eval_lone_part
-decreases-evaluation::eval_lone_part g l = 16016 * g.O.Outside.entries_left l.outside.now + 16 * room (tree_of l.tree.now) + 2
+decreases-evaluation::eval_lone_part g l = 32032 * g.O.Outside.entries_left l.outside.now + 32 * room (tree_of l.tree.now) + 2
 
 abbrev pub decreases-commands::call_builtin : goal.decreases-commands::call_builtin
-decreases-commands::call_builtin g l = 16016 * g.O.Outside.entries_left l.outside.now + 16 * room (tree_of l.tree.now) + 10
+decreases-commands::call_builtin g l = 32032 * g.O.Outside.entries_left l.outside.now + 32 * room (tree_of l.tree.now) + 10
 
 abbrev pub decreases-evaluation::substitute : goal.decreases-evaluation::substitute
-decreases-evaluation::substitute g l = 16016 * g.O.Outside.entries_left l.outside.now + 16 * room (tree_of l.tree.now) + 3
+decreases-evaluation::substitute g l = 32032 * g.O.Outside.entries_left l.outside.now + 32 * room (tree_of l.tree.now) + 3
 
 abbrev pub decreases-evaluation::eval_word : goal.decreases-evaluation::eval_word
-decreases-evaluation::eval_word g l = 16016 * g.O.Outside.entries_left l.outside.now + 16 * room (tree_of l.tree.now) + 4
+decreases-evaluation::eval_word g l = 32032 * g.O.Outside.entries_left l.outside.now + 32 * room (tree_of l.tree.now) + 4
 
 abbrev pub decreases-commands::call_command : goal.decreases-commands::call_command
-decreases-commands::call_command g l = 16016 * g.O.Outside.entries_left l.outside.now + 16 * room (tree_of l.tree.now) + 11
+decreases-commands::call_command g l = 32032 * g.O.Outside.entries_left l.outside.now + 32 * room (tree_of l.tree.now) + 11
 
 abbrev pub decreases-commands::call : goal.decreases-commands::call
-decreases-commands::call g l = 16016 * g.O.Outside.entries_left l.outside.now + 16 * room (tree_of l.tree.now) + 12
+decreases-commands::call g l = 32032 * g.O.Outside.entries_left l.outside.now + 32 * room (tree_of l.tree.now) + 12
+
+abbrev pub decreases-words::call_texts : goal.decreases-words::call_texts
+decreases-words::call_texts g l = 32032 * g.O.Outside.entries_left l.outside.now + 32 * room (tree_of l.tree.now) + 13
+
+abbrev pub decreases-words::call_literals : goal.decreases-words::call_literals
+decreases-words::call_literals g l = 32032 * g.O.Outside.entries_left l.outside.now + 32 * room (tree_of l.tree.now) + 14
+
+abbrev pub decreases-words::call_many : goal.decreases-words::call_many
+decreases-words::call_many g l = 32032 * g.O.Outside.entries_left l.outside.now + 32 * room (tree_of l.tree.now) + 14
+
+abbrev pub decreases-words::call_two : goal.decreases-words::call_two
+decreases-words::call_two g l = 32032 * g.O.Outside.entries_left l.outside.now + 32 * room (tree_of l.tree.now) + 15
+
+abbrev pub decreases-words::call_three : goal.decreases-words::call_three
+decreases-words::call_three g l = 32032 * g.O.Outside.entries_left l.outside.now + 32 * room (tree_of l.tree.now) + 15
+
+abbrev pub decreases-words::call_four : goal.decreases-words::call_four
+decreases-words::call_four g l = 32032 * g.O.Outside.entries_left l.outside.now + 32 * room (tree_of l.tree.now) + 15
+
+abbrev pub decreases-words::call_words : goal.decreases-words::call_words
+decreases-words::call_words g l = 32032 * g.O.Outside.entries_left l.outside.now + 32 * room (tree_of l.tree.now) + 16
 
 abbrev pub decreases-evaluation::eval_command : goal.decreases-evaluation::eval_command
-decreases-evaluation::eval_command g l = 16016 * g.O.Outside.entries_left l.outside.now + 16 * room (tree_of l.tree.now) + 13
+decreases-evaluation::eval_command g l = 32032 * g.O.Outside.entries_left l.outside.now + 32 * room (tree_of l.tree.now) + 17
 
 abbrev pub decreases-evaluation::eval_commands : goal.decreases-evaluation::eval_commands
-decreases-evaluation::eval_commands g l = 16016 * g.O.Outside.entries_left l.outside.now + 16 * room (tree_of l.tree.now) + 14
+decreases-evaluation::eval_commands g l = 32032 * g.O.Outside.entries_left l.outside.now + 32 * room (tree_of l.tree.now) + 18
 
 abbrev pub decreases-crossing::call_target : goal.decreases-crossing::call_target
-decreases-crossing::call_target g l = 16016 * g.O.Outside.entries_left l.outside.now + 16 * room (tree_of l.tree.now) + 0
+decreases-crossing::call_target g l = 32032 * g.O.Outside.entries_left l.outside.now + 32 * room (tree_of l.tree.now) + 0
 
 abbrev pub decreases-crossing::serve_call : goal.decreases-crossing::serve_call
-decreases-crossing::serve_call g l = 16016 * g.O.Outside.entries_left l.outside.now + 16 * room (tree_of l.tree.now) + 1
+decreases-crossing::serve_call g l = 32032 * g.O.Outside.entries_left l.outside.now + 32 * room (tree_of l.tree.now) + 1
 
 abbrev pub decreases-crossing::call_alias : goal.decreases-crossing::call_alias
-decreases-crossing::call_alias g l = 16016 * g.O.Outside.entries_left l.outside.now + 16 * room (tree_of l.tree.now) + 5
+decreases-crossing::call_alias g l = 32032 * g.O.Outside.entries_left l.outside.now + 32 * room (tree_of l.tree.now) + 5
 
 abbrev pub decreases-crossing::invoke : goal.decreases-crossing::invoke
-decreases-crossing::invoke g l = 16016 * g.O.Outside.entries_left l.outside.now + 16 * room (tree_of l.tree.now) + 0
+decreases-crossing::invoke g l = 32032 * g.O.Outside.entries_left l.outside.now + 32 * room (tree_of l.tree.now) + 0
 
 abbrev pub decreases-crossing::invoke_at : goal.decreases-crossing::invoke_at
-decreases-crossing::invoke_at g l = 16016 * g.O.Outside.entries_left l.outside.now + 16 * room (tree_of l.tree.now) + 13
+decreases-crossing::invoke_at g l = 32032 * g.O.Outside.entries_left l.outside.now + 32 * room (tree_of l.tree.now) + 13
 
 abbrev pub decreases-crossing::serve_hidden : goal.decreases-crossing::serve_hidden
-decreases-crossing::serve_hidden g l = 16016 * g.O.Outside.entries_left l.outside.now + 16 * room (tree_of l.tree.now) + 2
+decreases-crossing::serve_hidden g l = 32032 * g.O.Outside.entries_left l.outside.now + 32 * room (tree_of l.tree.now) + 2
 
 abbrev pub decreases-crossing::serve_eval : goal.decreases-crossing::serve_eval
-decreases-crossing::serve_eval g l = 16016 * g.O.Outside.entries_left l.outside.now + 16 * room (tree_of l.tree.now) + 2
+decreases-crossing::serve_eval g l = 32032 * g.O.Outside.entries_left l.outside.now + 32 * room (tree_of l.tree.now) + 2
 
 abbrev pub decreases-commands::call_hidden : goal.decreases-commands::call_hidden
-decreases-commands::call_hidden g l = 16016 * g.O.Outside.entries_left l.outside.now + 16 * room (tree_of l.tree.now) + 12
+decreases-commands::call_hidden g l = 32032 * g.O.Outside.entries_left l.outside.now + 32 * room (tree_of l.tree.now) + 12
 
 abbrev pub decreases-interpreters::eval_in : goal.decreases-interpreters::eval_in
-decreases-interpreters::eval_in g l = 16016 * g.O.Outside.entries_left l.outside.now + 16 * room (tree_of l.tree.now) + 7
+decreases-interpreters::eval_in g l = 32032 * g.O.Outside.entries_left l.outside.now + 32 * room (tree_of l.tree.now) + 7
 
 abbrev pub decreases-interpreters::interp : goal.decreases-interpreters::interp
-decreases-interpreters::interp g l = 16016 * g.O.Outside.entries_left l.outside.now + 16 * room (tree_of l.tree.now) + 9
+decreases-interpreters::interp g l = 32032 * g.O.Outside.entries_left l.outside.now + 32 * room (tree_of l.tree.now) + 9
 
 abbrev pub decreases-interpreters::invoke_hidden : goal.decreases-interpreters::invoke_hidden
-decreases-interpreters::invoke_hidden g l = 16016 * g.O.Outside.entries_left l.outside.now + 16 * room (tree_of l.tree.now) + 7
+decreases-interpreters::invoke_hidden g l = 32032 * g.O.Outside.entries_left l.outside.now + 32 * room (tree_of l.tree.now) + 7
 
 abbrev pub decreases-interpreters::call_subcommand : goal.decreases-interpreters::call_subcommand
-decreases-interpreters::call_subcommand g l = 16016 * g.O.Outside.entries_left l.outside.now + 16 * room (tree_of l.tree.now) + 8
+decreases-interpreters::call_subcommand g l = 32032 * g.O.Outside.entries_left l.outside.now + 32 * room (tree_of l.tree.now) + 8
 
 abbrev pub decreases-children::child : goal.decreases-children::child
-decreases-children::child g l = 16016 * g.O.Outside.entries_left l.outside.now + 16 * room (tree_of l.tree.now) + 9
+decreases-children::child g l = 32032 * g.O.Outside.entries_left l.outside.now + 32 * room (tree_of l.tree.now) + 9
 
 abbrev pub invariant-evaluation::eval_commands-commands : goal.invariant-evaluation::eval_commands-commands
 invariant-evaluation::eval_commands-commands g l = record {
   leads : (p : Path) (style : Integers) → IsAt l.fn.tree l.place p style →
-      Leads (ways g.O.Outside.goes g.O.Outside.loses) style (tree_of l.fn.tree) l.fn.outside p (commands l.fn.script.commands l.fn.script.fault []) (tree_of l.tree) l.outside (commands (drop l.command-index l.command-items) l.fn.script.fault l.last);
+      Leads (ways g.O.Outside.goes g.O.Outside.loses) style (tree_of l.fn.tree) l.fn.outside p (commands l.fn.script.commands l.fn.script.fault []) (tree_of l.tree) l.outside (commands (map seen_command (drop l.command-index l.all)) l.fn.script.fault l.last);
   here : IsHere l.fn.tree l.tree l.place;
   keeps : Keeps g.O.Outside.entries_left l.fn.tree l.tree l.fn.outside l.outside;
 }
 
-abbrev pub invariant-evaluation::eval_command-words : goal.invariant-evaluation::eval_command-words
-invariant-evaluation::eval_command-words g l = record {
+abbrev pub invariant-words::call_many-words : goal.invariant-words::call_many-words
+invariant-words::call_many-words g l = record {
   leads : (p : Path) (style : Integers) → IsAt l.fn.tree l.place p style →
-      Leads (ways g.O.Outside.goes g.O.Outside.loses) style (tree_of l.fn.tree) l.fn.outside p (words l.fn.command []) (tree_of l.tree) l.outside (words (drop l.word-index l.word-items) l.words.items);
+      Leads (ways g.O.Outside.goes g.O.Outside.loses) style (tree_of l.fn.tree) l.fn.outside p (words (map seen_word l.fn.words) []) (tree_of l.tree) l.outside (words (map seen_word (drop l.word-index l.words)) l.texts.items);
   here : IsHere l.fn.tree l.tree l.place;
   keeps : Keeps g.O.Outside.entries_left l.fn.tree l.tree l.fn.outside l.outside;
 }
@@ -121,7 +146,7 @@ invariant-evaluation::eval_command-words g l = record {
 abbrev pub invariant-evaluation::substitute-parts : goal.invariant-evaluation::substitute-parts
 invariant-evaluation::substitute-parts g l = record {
   leads : (p : Path) (style : Integers) → IsAt l.fn.tree l.place p style →
-      Leads (ways g.O.Outside.goes g.O.Outside.loses) style (tree_of l.fn.tree) l.fn.outside p (parts l.fn.parts [] []) (tree_of l.tree) l.outside (parts (drop l.part-index l.parts) (opens l.elements.items) (string_bytes l.text));
+      Leads (ways g.O.Outside.goes g.O.Outside.loses) style (tree_of l.fn.tree) l.fn.outside p (parts (map seen_part l.fn.parts) [] []) (tree_of l.tree) l.outside (parts (map seen_part (drop l.part-index l.parts)) (opens l.elements.items) (string_bytes l.text));
   short : IsShort (string_bytes l.text);
   here : IsHere l.fn.tree l.tree l.place;
   keeps : Keeps g.O.Outside.entries_left l.fn.tree l.tree l.fn.outside l.outside;
@@ -129,26 +154,35 @@ invariant-evaluation::substitute-parts g l = record {
 
 -- Expressions, and the commands with conditions.
 
+abbrev pub decreases-operands::eval_lone_operand : goal.decreases-operands::eval_lone_operand
+decreases-operands::eval_lone_operand g l = 32032 * g.O.Outside.entries_left l.outside.now + 32 * room (tree_of l.tree.now) + 2
+
+abbrev pub decreases-operands::substitute_read : goal.decreases-operands::substitute_read
+decreases-operands::substitute_read g l = 32032 * g.O.Outside.entries_left l.outside.now + 32 * room (tree_of l.tree.now) + 4
+
+abbrev pub decreases-operands::eval_operand : goal.decreases-operands::eval_operand
+decreases-operands::eval_operand g l = 32032 * g.O.Outside.entries_left l.outside.now + 32 * room (tree_of l.tree.now) + 5
+
 abbrev pub decreases-expressions::expression : goal.decreases-expressions::expression
-decreases-expressions::expression g l = 16016 * g.O.Outside.entries_left l.outside.now + 16 * room (tree_of l.tree.now) + 5
+decreases-expressions::expression g l = 32032 * g.O.Outside.entries_left l.outside.now + 32 * room (tree_of l.tree.now) + 6
 
 abbrev pub decreases-expressions::condition : goal.decreases-expressions::condition
-decreases-expressions::condition g l = 16016 * g.O.Outside.entries_left l.outside.now + 16 * room (tree_of l.tree.now) + 6
+decreases-expressions::condition g l = 32032 * g.O.Outside.entries_left l.outside.now + 32 * room (tree_of l.tree.now) + 7
 
 abbrev pub decreases-expressions::expr : goal.decreases-expressions::expr
-decreases-expressions::expr g l = 16016 * g.O.Outside.entries_left l.outside.now + 16 * room (tree_of l.tree.now) + 6
+decreases-expressions::expr g l = 32032 * g.O.Outside.entries_left l.outside.now + 32 * room (tree_of l.tree.now) + 7
 
 abbrev pub decreases-expressions::if_first : goal.decreases-expressions::if_first
-decreases-expressions::if_first g l = 16016 * g.O.Outside.entries_left l.outside.now + 16 * room (tree_of l.tree.now) + 7
+decreases-expressions::if_first g l = 32032 * g.O.Outside.entries_left l.outside.now + 32 * room (tree_of l.tree.now) + 8
 
 abbrev pub decreases-expressions::turn : goal.decreases-expressions::turn
-decreases-expressions::turn g l = 16016 * g.O.Outside.entries_left l.outside.now + 16 * room (tree_of l.tree.now) + 7
+decreases-expressions::turn g l = 32032 * g.O.Outside.entries_left l.outside.now + 32 * room (tree_of l.tree.now) + 8
 
 abbrev pub decreases-expressions::while_loop : goal.decreases-expressions::while_loop
-decreases-expressions::while_loop g l = 16016 * g.O.Outside.entries_left l.outside.now + 16 * room (tree_of l.tree.now) + 8
+decreases-expressions::while_loop g l = 32032 * g.O.Outside.entries_left l.outside.now + 32 * room (tree_of l.tree.now) + 9
 
 abbrev pub decreases-expressions::for_loop : goal.decreases-expressions::for_loop
-decreases-expressions::for_loop g l = 16016 * g.O.Outside.entries_left l.outside.now + 16 * room (tree_of l.tree.now) + 8
+decreases-expressions::for_loop g l = 32032 * g.O.Outside.entries_left l.outside.now + 32 * room (tree_of l.tree.now) + 9
 
 abbrev pub decreases-expressions::expression-parts : goal.decreases-expressions::expression-parts
 decreases-expressions::expression-parts g l = length l.kept.nodes.items - l.evaluation.next
@@ -191,22 +225,22 @@ invariant-expressions::for_loop-turns g l = record {
 -- Loops over lists, and scripts at another level.
 
 abbrev pub decreases-loops::foreach : goal.decreases-loops::foreach
-decreases-loops::foreach g l = 16016 * g.O.Outside.entries_left l.outside.now + 16 * room (tree_of l.tree.now) + 8
+decreases-loops::foreach g l = 32032 * g.O.Outside.entries_left l.outside.now + 32 * room (tree_of l.tree.now) + 8
 
 abbrev pub decreases-loops::walk_through : goal.decreases-loops::walk_through
-decreases-loops::walk_through g l = 16016 * g.O.Outside.entries_left l.outside.now + 16 * room (tree_of l.tree.now) + 7
+decreases-loops::walk_through g l = 32032 * g.O.Outside.entries_left l.outside.now + 32 * room (tree_of l.tree.now) + 7
 
 abbrev pub decreases-loops::dict_for : goal.decreases-loops::dict_for
-decreases-loops::dict_for g l = 16016 * g.O.Outside.entries_left l.outside.now + 16 * room (tree_of l.tree.now) + 8
+decreases-loops::dict_for g l = 32032 * g.O.Outside.entries_left l.outside.now + 32 * room (tree_of l.tree.now) + 8
 
 abbrev pub decreases-loops::dict : goal.decreases-loops::dict
-decreases-loops::dict g l = 16016 * g.O.Outside.entries_left l.outside.now + 16 * room (tree_of l.tree.now) + 9
+decreases-loops::dict g l = 32032 * g.O.Outside.entries_left l.outside.now + 32 * room (tree_of l.tree.now) + 9
 
 abbrev pub decreases-collecting::lmap : goal.decreases-collecting::lmap
-decreases-collecting::lmap g l = 16016 * g.O.Outside.entries_left l.outside.now + 16 * room (tree_of l.tree.now) + 8
+decreases-collecting::lmap g l = 32032 * g.O.Outside.entries_left l.outside.now + 32 * room (tree_of l.tree.now) + 8
 
 abbrev pub decreases-loops::uplevel : goal.decreases-loops::uplevel
-decreases-loops::uplevel g l = 16016 * g.O.Outside.entries_left l.outside.now + 16 * room (tree_of l.tree.now) + 2
+decreases-loops::uplevel g l = 32032 * g.O.Outside.entries_left l.outside.now + 32 * room (tree_of l.tree.now) + 2
 
 abbrev pub invariant-loops::walk_through-turns : goal.invariant-loops::walk_through-turns
 invariant-loops::walk_through-turns g l = record {
@@ -229,81 +263,81 @@ invariant-collecting::lmap-turns g l = record {
 -- Choices of a script.
 
 abbrev pub decreases-switching::switch : goal.decreases-switching::switch
-decreases-switching::switch g l = 16016 * g.O.Outside.entries_left l.outside.now + 16 * room (tree_of l.tree.now) + 2
+decreases-switching::switch g l = 32032 * g.O.Outside.entries_left l.outside.now + 32 * room (tree_of l.tree.now) + 2
 
 abbrev pub decreases-trying::run_handler : goal.decreases-trying::run_handler
-decreases-trying::run_handler g l = 16016 * g.O.Outside.entries_left l.outside.now + 16 * room (tree_of l.tree.now) + 2
+decreases-trying::run_handler g l = 32032 * g.O.Outside.entries_left l.outside.now + 32 * room (tree_of l.tree.now) + 2
 
 abbrev pub decreases-trying::handle : goal.decreases-trying::handle
-decreases-trying::handle g l = 16016 * g.O.Outside.entries_left l.outside.now + 16 * room (tree_of l.tree.now) + 3
+decreases-trying::handle g l = 32032 * g.O.Outside.entries_left l.outside.now + 32 * room (tree_of l.tree.now) + 3
 
 abbrev pub decreases-trying::handled : goal.decreases-trying::handled
-decreases-trying::handled g l = 16016 * g.O.Outside.entries_left l.outside.now + 16 * room (tree_of l.tree.now) + 4
+decreases-trying::handled g l = 32032 * g.O.Outside.entries_left l.outside.now + 32 * room (tree_of l.tree.now) + 4
 
 abbrev pub decreases-trying::try_script : goal.decreases-trying::try_script
-decreases-trying::try_script g l = 16016 * g.O.Outside.entries_left l.outside.now + 16 * room (tree_of l.tree.now) + 5
+decreases-trying::try_script g l = 32032 * g.O.Outside.entries_left l.outside.now + 32 * room (tree_of l.tree.now) + 5
 
 -- Crossings, and what stands outside of the tree.
 
 abbrev pub decreases-crossing::serve_entry : goal.decreases-crossing::serve_entry
-decreases-crossing::serve_entry g l = 16016 * g.O.Outside.entries_left l.outside.now + 16 * room (tree_of l.tree.now) + 3
+decreases-crossing::serve_entry g l = 32032 * g.O.Outside.entries_left l.outside.now + 32 * room (tree_of l.tree.now) + 3
 
 abbrev pub decreases-crossing::call_there : goal.decreases-crossing::call_there
-decreases-crossing::call_there g l = 16016 * g.O.Outside.entries_left l.outside.now + 16 * room (tree_of l.tree.now) + 4
+decreases-crossing::call_there g l = 32032 * g.O.Outside.entries_left l.outside.now + 32 * room (tree_of l.tree.now) + 4
 
 abbrev pub decreases-crossing::call_past_top : goal.decreases-crossing::call_past_top
-decreases-crossing::call_past_top g l = 16016 * g.O.Outside.entries_left l.outside.now + 16 * room (tree_of l.tree.now) + 1
+decreases-crossing::call_past_top g l = 32032 * g.O.Outside.entries_left l.outside.now + 32 * room (tree_of l.tree.now) + 1
 
 abbrev pub decreases-crossing::ask_below : goal.decreases-crossing::ask_below
-decreases-crossing::ask_below g l = 16016 * g.O.Outside.entries_left l.outside.now + 16 * room (tree_of l.tree.now) + 5
+decreases-crossing::ask_below g l = 32032 * g.O.Outside.entries_left l.outside.now + 32 * room (tree_of l.tree.now) + 5
 
 abbrev pub decreases-crossing::ask_entry : goal.decreases-crossing::ask_entry
-decreases-crossing::ask_entry g l = 16016 * g.O.Outside.entries_left l.outside.now + 16 * room (tree_of l.tree.now) + 6
+decreases-crossing::ask_entry g l = 32032 * g.O.Outside.entries_left l.outside.now + 32 * room (tree_of l.tree.now) + 6
 
 abbrev pub decreases-waiting::wait : goal.decreases-waiting::wait
-decreases-waiting::wait g l = 16016 * g.O.Outside.entries_left l.outside.now + 16 * room (tree_of l.tree.now) + 0
+decreases-waiting::wait g l = 32032 * g.O.Outside.entries_left l.outside.now + 32 * room (tree_of l.tree.now) + 0
 
 abbrev pub decreases-waiting::hand_in : goal.decreases-waiting::hand_in
-decreases-waiting::hand_in g l = 16016 * g.O.Outside.entries_left l.outside.now + 16 * room (tree_of l.tree.now) + 6
+decreases-waiting::hand_in g l = 32032 * g.O.Outside.entries_left l.outside.now + 32 * room (tree_of l.tree.now) + 6
 
 abbrev pub decreases-waiting::hand_to : goal.decreases-waiting::hand_to
-decreases-waiting::hand_to g l = 16016 * g.O.Outside.entries_left l.outside.now + 16 * room (tree_of l.tree.now) + 5
+decreases-waiting::hand_to g l = 32032 * g.O.Outside.entries_left l.outside.now + 32 * room (tree_of l.tree.now) + 5
 
 abbrev pub decreases-waiting::enter : goal.decreases-waiting::enter
-decreases-waiting::enter g l = 16016 * g.O.Outside.entries_left l.outside.now + 16 * room (tree_of l.tree.now) + 4
+decreases-waiting::enter g l = 32032 * g.O.Outside.entries_left l.outside.now + 32 * room (tree_of l.tree.now) + 4
 
 abbrev pub decreases-hosting::ask : goal.decreases-hosting::ask
-decreases-hosting::ask g l = 16016 * g.O.Outside.entries_left l.outside.now + 16 * room (tree_of l.tree.now) + 1
+decreases-hosting::ask g l = 32032 * g.O.Outside.entries_left l.outside.now + 32 * room (tree_of l.tree.now) + 1
 
 abbrev pub decreases-hosting::make_call : goal.decreases-hosting::make_call
-decreases-hosting::make_call g l = 16016 * g.O.Outside.entries_left l.outside.now + 16 * room (tree_of l.tree.now) + 2
+decreases-hosting::make_call g l = 32032 * g.O.Outside.entries_left l.outside.now + 32 * room (tree_of l.tree.now) + 2
 
 abbrev pub decreases-hosting::call_host : goal.decreases-hosting::call_host
-decreases-hosting::call_host g l = 16016 * g.O.Outside.entries_left l.outside.now + 16 * room (tree_of l.tree.now) + 3
+decreases-hosting::call_host g l = 32032 * g.O.Outside.entries_left l.outside.now + 32 * room (tree_of l.tree.now) + 3
 
 abbrev pub decreases-hosting::write : goal.decreases-hosting::write
-decreases-hosting::write g l = 16016 * g.O.Outside.entries_left l.outside.now + 16 * room (tree_of l.tree.now) + 3
+decreases-hosting::write g l = 32032 * g.O.Outside.entries_left l.outside.now + 32 * room (tree_of l.tree.now) + 3
 
 abbrev pub decreases-hosting::put_line : goal.decreases-hosting::put_line
-decreases-hosting::put_line g l = 16016 * g.O.Outside.entries_left l.outside.now + 16 * room (tree_of l.tree.now) + 4
+decreases-hosting::put_line g l = 32032 * g.O.Outside.entries_left l.outside.now + 32 * room (tree_of l.tree.now) + 4
 
 abbrev pub decreases-hosting::puts : goal.decreases-hosting::puts
-decreases-hosting::puts g l = 16016 * g.O.Outside.entries_left l.outside.now + 16 * room (tree_of l.tree.now) + 5
+decreases-hosting::puts g l = 32032 * g.O.Outside.entries_left l.outside.now + 32 * room (tree_of l.tree.now) + 5
 
 abbrev pub decreases-sourcing::read_channel : goal.decreases-sourcing::read_channel
-decreases-sourcing::read_channel g l = 16016 * g.O.Outside.entries_left l.outside.now + 16 * room (tree_of l.tree.now) + 2
+decreases-sourcing::read_channel g l = 32032 * g.O.Outside.entries_left l.outside.now + 32 * room (tree_of l.tree.now) + 2
 
 abbrev pub decreases-sourcing::read_file : goal.decreases-sourcing::read_file
-decreases-sourcing::read_file g l = 16016 * g.O.Outside.entries_left l.outside.now + 16 * room (tree_of l.tree.now) + 3
+decreases-sourcing::read_file g l = 32032 * g.O.Outside.entries_left l.outside.now + 32 * room (tree_of l.tree.now) + 3
 
 abbrev pub decreases-sourcing::eval_file : goal.decreases-sourcing::eval_file
-decreases-sourcing::eval_file g l = 16016 * g.O.Outside.entries_left l.outside.now + 16 * room (tree_of l.tree.now) + 2
+decreases-sourcing::eval_file g l = 32032 * g.O.Outside.entries_left l.outside.now + 32 * room (tree_of l.tree.now) + 2
 
 abbrev pub decreases-sourcing::source_file : goal.decreases-sourcing::source_file
-decreases-sourcing::source_file g l = 16016 * g.O.Outside.entries_left l.outside.now + 16 * room (tree_of l.tree.now) + 4
+decreases-sourcing::source_file g l = 32032 * g.O.Outside.entries_left l.outside.now + 32 * room (tree_of l.tree.now) + 4
 
 abbrev pub decreases-sourcing::source : goal.decreases-sourcing::source
-decreases-sourcing::source g l = 16016 * g.O.Outside.entries_left l.outside.now + 16 * room (tree_of l.tree.now) + 5
+decreases-sourcing::source g l = 32032 * g.O.Outside.entries_left l.outside.now + 32 * room (tree_of l.tree.now) + 5
 
 abbrev pub decreases-waiting::wait-turns : goal.decreases-waiting::wait-turns
 decreases-waiting::wait-turns g l = g.O.Outside.entries_left l.outside

@@ -11,18 +11,18 @@ use std::rc::Rc;
 use tcl_expr::fault::{ExprError, ExprFault};
 use tcl_expr::tree::ExprTree;
 use tcl_parse_cache::readings::Readings;
-use tcl_parser::script::Script;
+use tcl_prepared::prepared::Prepared;
 use tcl_text::integer::Integers;
 use tcl_text::text::Text;
 use tcl_value::value::Value;
 
 impl Tree {
     /// The script that a value is, read anew only where it wasn't read before. Faults of its text
-    /// are part of it. The value keeps it.
+    /// are part of it. The value keeps where it is found.
     ///
     /// # Errors
     /// Want of memory.
-    pub fn script_of(&self, alloc: Global, value: &mut Value) -> Result<Rc<Script>, AllocError>
+    pub fn script_of(&self, alloc: Global, value: &mut Value) -> Result<Rc<Prepared>, AllocError>
         ensures read { IfOk result (λ script. script.value ≡ read_script value.old) }
         ensures same { value.new ≡ value.old }
     {
@@ -37,7 +37,7 @@ impl Tree {
     ///
     /// # Errors
     /// Want of memory.
-    pub fn script(&self, alloc: Global, text: &Text) -> Result<Rc<Script>, AllocError>
+    pub fn script(&self, alloc: Global, text: &Text) -> Result<Rc<Prepared>, AllocError>
         ensures { IfOk result (λ script. script.value ≡ read_script text.now) }
     {
         match self.readings.try_borrow_mut() {

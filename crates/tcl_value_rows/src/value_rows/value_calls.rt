@@ -7,6 +7,7 @@ use crate::value_rows::reading::{Call, Verb, number_of, path_of, places_of};
 use std::alloc::Global;
 use tcl_nested::changing::{remove_key, set_element, set_value};
 use tcl_nested::fault::NestedError;
+use tcl_parse_cache::readings::Readings;
 use tcl_text::integer::{IntegerFault, Integers};
 use tcl_text::list::ListError;
 use tcl_value::dict_fault::DictError;
@@ -39,6 +40,12 @@ fn dict_len(alloc: Global, own: &mut Value) -> Answer {
     }
 }
 
+/// How many commands the script has that a value is.
+fn script_len(alloc: Global, own: &mut Value) -> Answer {
+    let script = Readings::new(alloc).script_of(alloc, own)?;
+    count(alloc, script.commands().len())
+}
+
 /// What a call answers that looks at a value: of a list, a dict and a script the number of
 /// elements, keys and commands.
 fn looked(alloc: Global, style: Integers, verb: &str, own: &mut Value) -> Answer {
@@ -48,7 +55,7 @@ fn looked(alloc: Global, style: Integers, verb: &str, own: &mut Value) -> Answer
         "as_int" => number(alloc, style, own),
         "as_list" => list_len(alloc, own),
         "as_dict" => dict_len(alloc, own),
-        "as_script" => count(alloc, own.as_script(alloc)?.commands.len()),
+        "as_script" => script_len(alloc, own),
         _ => no_call(alloc),
     }
 }

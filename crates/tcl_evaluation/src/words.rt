@@ -1,0 +1,224 @@
+//! The words of commands, and the calls that are made with them.
+ghost use Rattle.std.specs.Prelude.{◌≡◌, [], map, IsTrue};
+ghost use Rattle.tcl_language.specs.Scripts as scripts;
+ghost use Rattle.tcl_prepared.specs.Views.{literal_word, seen_word};
+ghost use Rattle.tcl_run.specs.Ends.{OnCompletion};
+ghost use Rattle.tcl_run.specs.Runs.{IsHere, IsRunning, Keeps, ProceedsIn, ways};
+ghost use Rattle.tcl_value.specs.Texts.{AllWithin};
+ghost use Rattle.tcl_evaluation.specs.View.{AreSingle};
+
+use crate::commands::call;
+use crate::evaluation::eval_word;
+use std::alloc::Global;
+use tcl_calls::words::spread;
+use tcl_prepared::prepared::PreparedWord;
+use tcl_run::interruption::Interruption;
+use tcl_run::outside::Outside;
+use tcl_run::steps::{charge, on_ok};
+use tcl_tree::tree::{Place, Tree};
+use tcl_value::value::Value;
+
+/// Makes a step and calls the command that the first of these texts names. No texts are no command.
+///
+/// # Errors
+/// The stop 308; those of the call; want of memory.
+#[cycle(eval)]
+fn call_texts<O: Outside>(
+    tree: &mut Tree,
+    alloc: Global,
+    outside: &mut O,
+    place: Place,
+    texts: &[Value],
+) -> Result<Value, Interruption>
+    requires { IsRunning tree.old place }
+    ensures runs { ProceedsIn (ways O.goes O.loses) tree.old outside.old place
+        (λ style. scripts.words [] texts.now) tree.new outside.new result }
+    ensures here { OnCompletion result (IsHere tree.old tree.new place) }
+    ensures keeps { Keeps O.entries_left tree.old tree.new outside.old outside.new }
+{
+    if texts.is_empty() {
+        return Ok(Value::empty());
+    }
+    charge(tree, outside, place)?;
+    call(tree, alloc, outside, place, texts)
+}
+
+/// Calls a command each of whose words stands for itself.
+///
+/// # Errors
+/// The stop 308; those of the call; want of memory.
+#[cycle(eval)]
+pub fn call_literals<O: Outside>(
+    tree: &mut Tree,
+    alloc: Global,
+    outside: &mut O,
+    place: Place,
+    words: &[Value],
+) -> Result<Value, Interruption>
+    requires running { IsRunning tree.old place }
+    requires within { AllWithin words.now }
+    ensures runs { ProceedsIn (ways O.goes O.loses) tree.old outside.old place
+        (λ style. scripts.words (map literal_word words.now) []) tree.new outside.new result }
+    ensures here { OnCompletion result (IsHere tree.old tree.new place) }
+    ensures keeps { Keeps O.entries_left tree.old tree.new outside.old outside.new }
+{
+    call_texts(tree, alloc, outside, place, words)
+}
+
+/// Substitutes a command's words from left to right, makes a step and calls it. Of two to four
+/// words no list is made.
+///
+/// # Errors
+/// Those of the words; 101 to 104 of a word that is spread; the stop 308; those of the call; want
+/// of memory.
+#[cycle(eval)]
+pub fn call_words<O: Outside>(
+    tree: &mut Tree,
+    alloc: Global,
+    outside: &mut O,
+    place: Place,
+    words: &[PreparedWord],
+) -> Result<Value, Interruption>
+    requires running { IsRunning tree.old place }
+    ensures runs { ProceedsIn (ways O.goes O.loses) tree.old outside.old place
+        (λ style. scripts.words (map seen_word words.now) []) tree.new outside.new result }
+    ensures here { OnCompletion result (IsHere tree.old tree.new place) }
+    ensures keeps { Keeps O.entries_left tree.old tree.new outside.old outside.new }
+{
+    if !are_single(words) {
+        return call_many(tree, alloc, outside, place, words);
+    }
+    match words.len() {
+        2 => call_two(tree, alloc, outside, place, words),
+        3 => call_three(tree, alloc, outside, place, words),
+        4 => call_four(tree, alloc, outside, place, words),
+        _ => call_many(tree, alloc, outside, place, words),
+    }
+}
+
+/// Whether a word is spread.
+fn expands(word: &PreparedWord) -> bool
+    ensures { result ≡ (seen_word word.now).expand }
+{
+    match word {
+        PreparedWord::Spread(_) => true,
+        PreparedWord::Literal(_) | PreparedWord::Lone(_) | PreparedWord::Parts(_) => false,
+    }
+}
+
+/// Whether none of these words is spread.
+fn are_single(words: &[PreparedWord]) -> bool
+    ensures { IsTrue result → AreSingle (map seen_word words.now) }
+{
+    'words: for word in words {
+        if expands(word) {
+            return false;
+        }
+    }
+    true
+}
+
+/// Calls the command of any number of words, which may be spread.
+#[cycle(eval)]
+#[inline(never)]
+fn call_many<O: Outside>(
+    tree: &mut Tree,
+    alloc: Global,
+    outside: &mut O,
+    place: Place,
+    words: &[PreparedWord],
+) -> Result<Value, Interruption>
+    requires running { IsRunning tree.old place }
+    ensures runs { ProceedsIn (ways O.goes O.loses) tree.old outside.old place
+        (λ style. scripts.words (map seen_word words.now) []) tree.new outside.new result }
+    ensures here { OnCompletion result (IsHere tree.old tree.new place) }
+    ensures keeps { Keeps O.entries_left tree.old tree.new outside.old outside.new }
+{
+    let mut texts = Vec::with_capacity(alloc, words.len())?;
+    'words: for word in words {
+        let text = on_ok(eval_word(tree, alloc, outside, place, word))?;
+        spread(alloc, expands(word), text, &mut texts)?;
+    }
+    call_texts(tree, alloc, outside, place, texts.as_slice())
+}
+
+/// Calls the command of two words, neither of which is spread.
+#[cycle(eval)]
+#[inline(never)]
+fn call_two<O: Outside>(
+    tree: &mut Tree,
+    alloc: Global,
+    outside: &mut O,
+    place: Place,
+    words: &[PreparedWord],
+) -> Result<Value, Interruption>
+    requires running { IsRunning tree.old place }
+    requires single { AreSingle (map seen_word words.now) }
+    ensures runs { ProceedsIn (ways O.goes O.loses) tree.old outside.old place
+        (λ style. scripts.words (map seen_word words.now) []) tree.new outside.new result }
+    ensures here { OnCompletion result (IsHere tree.old tree.new place) }
+    ensures keeps { Keeps O.entries_left tree.old tree.new outside.old outside.new }
+{
+    let [first, second] = words else {
+        return call_many(tree, alloc, outside, place, words);
+    };
+    let first_text = on_ok(eval_word(tree, alloc, outside, place, first))?;
+    let second_text = on_ok(eval_word(tree, alloc, outside, place, second))?;
+    let texts = [first_text, second_text];
+    call_texts(tree, alloc, outside, place, &texts)
+}
+
+/// The same of three words.
+#[cycle(eval)]
+#[inline(never)]
+fn call_three<O: Outside>(
+    tree: &mut Tree,
+    alloc: Global,
+    outside: &mut O,
+    place: Place,
+    words: &[PreparedWord],
+) -> Result<Value, Interruption>
+    requires running { IsRunning tree.old place }
+    requires single { AreSingle (map seen_word words.now) }
+    ensures runs { ProceedsIn (ways O.goes O.loses) tree.old outside.old place
+        (λ style. scripts.words (map seen_word words.now) []) tree.new outside.new result }
+    ensures here { OnCompletion result (IsHere tree.old tree.new place) }
+    ensures keeps { Keeps O.entries_left tree.old tree.new outside.old outside.new }
+{
+    let [first, second, third] = words else {
+        return call_many(tree, alloc, outside, place, words);
+    };
+    let first_text = on_ok(eval_word(tree, alloc, outside, place, first))?;
+    let second_text = on_ok(eval_word(tree, alloc, outside, place, second))?;
+    let third_text = on_ok(eval_word(tree, alloc, outside, place, third))?;
+    let texts = [first_text, second_text, third_text];
+    call_texts(tree, alloc, outside, place, &texts)
+}
+
+/// The same of four words.
+#[cycle(eval)]
+#[inline(never)]
+fn call_four<O: Outside>(
+    tree: &mut Tree,
+    alloc: Global,
+    outside: &mut O,
+    place: Place,
+    words: &[PreparedWord],
+) -> Result<Value, Interruption>
+    requires running { IsRunning tree.old place }
+    requires single { AreSingle (map seen_word words.now) }
+    ensures runs { ProceedsIn (ways O.goes O.loses) tree.old outside.old place
+        (λ style. scripts.words (map seen_word words.now) []) tree.new outside.new result }
+    ensures here { OnCompletion result (IsHere tree.old tree.new place) }
+    ensures keeps { Keeps O.entries_left tree.old tree.new outside.old outside.new }
+{
+    let [first, second, third, fourth] = words else {
+        return call_many(tree, alloc, outside, place, words);
+    };
+    let first_text = on_ok(eval_word(tree, alloc, outside, place, first))?;
+    let second_text = on_ok(eval_word(tree, alloc, outside, place, second))?;
+    let third_text = on_ok(eval_word(tree, alloc, outside, place, third))?;
+    let fourth_text = on_ok(eval_word(tree, alloc, outside, place, fourth))?;
+    let texts = [first_text, second_text, third_text, fourth_text];
+    call_texts(tree, alloc, outside, place, &texts)
+}

@@ -1,0 +1,4 @@
+pub mod Names
+pub mod Views
+pub mod Brackets
+pub mod Falls

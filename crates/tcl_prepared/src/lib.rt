@@ -1,0 +1,8 @@
+//! Scripts that are ready to be evaluated: what a text was read as, with its literals as values and
+//! the scripts in brackets read along with it.
+#![tactic(auto)]
+
+pub mod name;
+mod pieces;
+pub mod prepared;
+pub mod preparing;

@@ -1,0 +1,61 @@
+//! How many pieces prepared commands have: what a cache of them counts.
+use crate::prepared::{PreparedCommand, PreparedPart, PreparedWord};
+
+/// The pieces of a part: itself, and those of a script in brackets.
+fn part_pieces(part: &PreparedPart) -> usize {
+    match part {
+        PreparedPart::Bracket(bracket) => bracket.script().pieces().saturating_add(1),
+        PreparedPart::Literal(_)
+        | PreparedPart::Variable(_)
+        | PreparedPart::Element(_)
+        | PreparedPart::EndElement
+        | PreparedPart::Deep(_) => 1,
+    }
+}
+
+/// Those of parts.
+fn parts_pieces(parts: &[PreparedPart]) -> usize {
+    let mut pieces: usize = 0;
+    'parts: for part in parts {
+        pieces = pieces.saturating_add(part_pieces(part));
+    }
+    pieces
+}
+
+/// Those of a word: itself, and its parts'.
+fn word_pieces(word: &PreparedWord) -> usize {
+    match word {
+        PreparedWord::Literal(_) => 1,
+        PreparedWord::Lone(part) => part_pieces(part).saturating_add(1),
+        PreparedWord::Parts(parts) | PreparedWord::Spread(parts) => {
+            parts_pieces(parts.as_slice()).saturating_add(1)
+        }
+    }
+}
+
+/// Those of words.
+fn words_pieces(words: &[PreparedWord]) -> usize {
+    let mut pieces: usize = 0;
+    'words: for word in words {
+        pieces = pieces.saturating_add(word_pieces(word));
+    }
+    pieces
+}
+
+/// Those of a command: itself, and its words'.
+fn command_pieces(command: &PreparedCommand) -> usize {
+    match command {
+        PreparedCommand::Constant(literals) => literals.words().len().saturating_add(1),
+        PreparedCommand::General(words) => words_pieces(words.as_slice()).saturating_add(1),
+    }
+}
+
+/// The pieces of commands: their own number, and their words and parts, with the pieces of what
+/// stands in their brackets.
+pub(crate) fn commands_pieces(commands: &[PreparedCommand]) -> usize {
+    let mut pieces: usize = 0;
+    'commands: for command in commands {
+        pieces = pieces.saturating_add(command_pieces(command));
+    }
+    pieces
+}

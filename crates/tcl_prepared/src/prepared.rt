@@ -1,0 +1,299 @@
+//! Scripts that are ready to be evaluated.
+ghost use Rattle.std.specs.Prelude.{◌≡◌, map};
+ghost use Rattle.tcl_parser.specs.Reading.{read_script};
+ghost use Rattle.tcl_value.specs.Texts.{AllWithin};
+ghost use Rattle.tcl_prepared.specs.Views.{seen_command};
+ghost use Rattle.tcl_prepared.specs.Brackets.{IsBracket};
+
+use crate::name::VariableName;
+use crate::pieces::commands_pieces;
+use std::alloc::AllocError;
+use std::marker::Model;
+use std::rc::Rc;
+use tcl_parser::fault::Fault;
+use tcl_text::text::Text;
+use tcl_value::value::Value;
+
+/// The words of a command each of which stands for itself. Contracts see them as their texts.
+pub struct Literals {
+    values: Vec<Value>,
+}
+
+impl Drop for Literals {
+    fn drop(self) {
+        let Literals { values: _values } = self;
+    }
+}
+
+impl Model for Literals {
+    ghost use Rattle.std.specs.Prelude.{List, ℕ};
+
+    ghost Value = { List (List ℕ) };
+
+    ghost view = { λ a. a.values.items };
+
+    ghost use Rattle.tcl_value.specs.Texts.{AllWithin};
+
+    ghost invariant = { λ a. AllWithin a.values.items };
+}
+
+impl Literals {
+    /// The words that have these values.
+    pub(crate) fn new(values: Vec<Value>) -> Literals
+        requires { AllWithin values.items }
+        ensures { result ≡ values.items }
+    {
+        Literals { values }
+    }
+
+    /// The words, as values.
+    pub fn words(&self) -> &[Value]
+        ensures words { result.now ≡ self.now }
+        ensures within { AllWithin self.now }
+    {
+        self.values.as_slice()
+    }
+}
+
+/// A part of a word, as of a word that was read.
+#[cycle(prepared)]
+#[derive(Drop)]
+pub enum PreparedPart {
+    /// A text that stands for itself.
+    Literal(Text),
+    /// The value of the variable of this name.
+    Variable(VariableName),
+    /// The value of an element of the array of this name. Its index is made of the parts up to the
+    /// `EndElement` that belongs to it.
+    Element(Text),
+    /// The end of an index.
+    EndElement,
+    /// The result of a script in brackets, which was read.
+    Bracket(Bracket),
+    /// The result of the script of this text, which stands too deep in brackets, or is too long, to
+    /// be read before it is evaluated.
+    Deep(Text),
+}
+
+/// A word of a command.
+#[cycle(prepared)]
+#[derive(Drop)]
+pub enum PreparedWord {
+    /// The text that it stands for, as a value.
+    Literal(Value),
+    /// One part.
+    Lone(PreparedPart),
+    /// The parts that it is made of.
+    Parts(Vec<PreparedPart>),
+    /// The same with `{*}` before them: the value is a list, whose elements are words.
+    Spread(Vec<PreparedPart>),
+}
+
+/// A command.
+#[cycle(prepared)]
+#[derive(Drop)]
+pub enum PreparedCommand {
+    /// Each word stands for itself. They are lent as they are to whoever calls the command.
+    Constant(Literals),
+    /// Words of any kind.
+    General(Vec<PreparedWord>),
+}
+
+/// A script that is ready to be evaluated, which contracts see as the script that was read.
+///
+/// What it takes is bounded by the text. Each command, word and part of the script and of those in
+/// its brackets begins at a byte of its own, so a text of n bytes has at most n of each, all levels
+/// together. The texts of literals, names and brackets come to at most n bytes at each of 17
+/// levels, of which those of literals may have room for twice their bytes.
+#[cycle(prepared)]
+pub struct Prepared {
+    commands: Vec<PreparedCommand>,
+    fault: Option<Fault>,
+    pieces: usize,
+}
+
+/// A script in brackets with what its text was read as. Contracts see it as the text.
+#[cycle(prepared)]
+pub struct Bracket {
+    text: Text,
+    script: Box<Prepared>,
+}
+
+impl Drop for Prepared {
+    #[cycle(dropping)]
+    fn drop(self) {
+        let Prepared {
+            commands: _commands,
+            fault: _,
+            pieces: _,
+        } = self;
+    }
+}
+
+impl Drop for Bracket {
+    #[cycle(dropping)]
+    fn drop(self) {
+        let Bracket {
+            text: _text,
+            script: _script,
+        } = self;
+    }
+}
+
+impl Model for Prepared {
+    ghost use Rattle.std.specs.Prelude.{map};
+    ghost use Rattle.tcl_parser.specs.Words.{Reading};
+    ghost use Rattle.tcl_prepared.specs.Views.{seen_command};
+
+    ghost Value = { Reading };
+
+    ghost view = { λ a. record { commands = map seen_command a.commands.items; fault = a.fault } };
+
+    ghost use Rattle.tcl_prepared.specs.Brackets.{weight};
+
+    ghost size = { weight };
+
+    ghost use Rattle.std.proofs.Common.{arith};
+    ghost use Rattle.tcl_prepared.specs.Falls.{commands_fall};
+
+    ghost size_decreases = { λ a h. Prim.omega (arith, commands_fall a.commands.items) };
+}
+
+impl Model for Bracket {
+    ghost use Rattle.std.specs.Prelude.{List, ℕ, length};
+
+    ghost Value = { List ℕ };
+
+    ghost view = { λ a. a.text };
+
+    ghost use Rattle.tcl_prepared.specs.Brackets.{IsBracket};
+
+    ghost invariant = { λ a. IsBracket a.text a.script.value };
+
+    ghost size = { length };
+
+    ghost use Rattle.std.proofs.Common.{arith};
+
+    ghost size_decreases = { λ a h. Prim.omega (arith, h.below) };
+}
+
+impl Prepared {
+    /// A script of these commands, with the fault that comes after them.
+    pub(crate) fn new(commands: Vec<PreparedCommand>, fault: Option<Fault>) -> Prepared
+        ensures commands { result.commands ≡ map seen_command commands.items }
+        ensures fault { result.fault ≡ fault }
+    {
+        let pieces = commands_pieces(commands.as_slice());
+        Prepared {
+            commands,
+            fault,
+            pieces,
+        }
+    }
+
+    /// Its commands in order.
+    pub fn commands(&self) -> &[PreparedCommand]
+        ensures { map seen_command result.now ≡ self.now.commands }
+    {
+        self.commands.as_slice()
+    }
+
+    /// Why the text can't be read on after them, if it can't.
+    pub fn fault(&self) -> Option<Fault>
+        ensures { result ≡ self.now.fault }
+    {
+        self.fault
+    }
+
+    /// How many pieces it is made of: its commands, words and parts, with those of the scripts in
+    /// its brackets. A piece takes at most 120 bytes and the bytes of its text.
+    pub fn pieces(&self) -> usize {
+        self.pieces
+    }
+}
+
+impl Bracket {
+    /// A text with what it was read as. The scripts in its brackets are shorter than it is.
+    pub(crate) fn new(text: Text, script: Box<Prepared>) -> Bracket
+        requires { IsBracket text script.value }
+        ensures { result ≡ text }
+    {
+        Bracket { text, script }
+    }
+
+    /// The text between the brackets.
+    pub fn text(&self) -> &Text
+        ensures { result.now ≡ self.now }
+    {
+        &self.text
+    }
+
+    /// What the text was read as.
+    pub fn script(&self) -> &Prepared
+        ensures { result.now ≡ read_script self.now }
+    {
+        &self.script
+    }
+}
+
+/// A text with the script that it is, which contracts see as the text. A clone shares the script.
+///
+/// A loop holds its body as one, so that each turn evaluates what was read once.
+pub struct PreparedText {
+    text: Text,
+    script: Rc<Prepared>,
+}
+
+impl Drop for PreparedText {
+    fn drop(self) {
+        let PreparedText {
+            text: _text,
+            script: _script,
+        } = self;
+    }
+}
+
+impl Model for PreparedText {
+    ghost use Rattle.std.specs.Prelude.{List, ℕ, ◌≡◌};
+    ghost use Rattle.tcl_parser.specs.Reading.{read_script};
+
+    ghost Value = { List ℕ };
+
+    ghost view = { λ a. a.text };
+
+    ghost invariant = { λ a. a.script.value ≡ read_script a.text };
+}
+
+impl PreparedText {
+    /// A text with what it was read as.
+    pub fn new(text: Text, script: Rc<Prepared>) -> PreparedText
+        requires { script.value ≡ read_script text }
+        ensures { result ≡ text }
+    {
+        PreparedText { text, script }
+    }
+
+    /// The text.
+    pub fn text(&self) -> &Text
+        ensures { result.now ≡ self.now }
+    {
+        &self.text
+    }
+
+    /// What the text was read as.
+    pub fn script(&self) -> &Prepared
+        ensures { result.now ≡ read_script self.now }
+    {
+        &self.script
+    }
+}
+
+impl Clone for PreparedText {
+    ghost is_clone = { λ x y. y ≡ x };
+
+    fn clone(&self) -> Result<PreparedText, AllocError> {
+        let text = self.text.clone()?;
+        let script = self.script.clone()?;
+        Ok(PreparedText { text, script })
+    }
+}
