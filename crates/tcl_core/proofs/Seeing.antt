@@ -155,7 +155,7 @@ start_most : (b : Bool) → levels (idle_at b) ≤ 0
 start_most true = omega arith
 start_most false = omega arith
 
-idle_most : {O : Type 0} (q : Place) (T : Tree O) → levels (idle_up T q) ≤ length q
+pub idle_most : {O : Type 0} (q : Place) (T : Tree O) → levels (idle_up T q) ≤ length q
 idle_most [] T = start_most (nat_eq (depth_of (T [])) 0)
 idle_most (x ∷ q) T = onward_most (length q) (idle_up (λ p. T (x ∷ p)) q) (nat_eq (depth_of (T [])) 0) (idle_most q (λ p. T (x ∷ p)))
 

@@ -33,7 +33,7 @@ use Rattle.tcl_run.proofs.Endings.{IfEnded-all, IfEnded-more}
 use Rattle.tcl_run.proofs.Losing.{lost_once, lost_twice}
 use Rattle.tcl_run.proofs.Proceeding.{comes, given_up_after}
 use Rattle.tcl_run.proofs.Quiet.{within_unchanged}
-use Rattle.tcl_run.specs.Ends.{IfEnded, WhereMemory, cause_of}
+use Rattle.tcl_run.specs.Ends.{IfEnded, cause_of}
 use Rattle.tcl_run.specs.Entering.{whole_entry}
 use Rattle.tcl_run.specs.Notifying.{Notified, WasUnfound}
 use Rattle.tcl_run.specs.Outsides.{AnswersFor, ComesNext, Enters, Going, Misses, Returns, told_to}
@@ -301,12 +301,6 @@ pub comes_to_nobody : {S : Type 0} (goes : Going S) (t : Table) (o z : S) (p tar
 comes_to_nobody goes t o z p target i e nobody h = subst (λ (q : Path). ComesOf goes (marks_of t).integers (tree_of t) o q i (tree_of t) z core_lives.Finished) e
     (λ before g. inr (record { nobody = nobody; told = h before g; same = refl; ends = refl }))
 
-pub where_some : {A : Type 0} (P : A → Type 0) (o : Option A) (a : A) → o ≡ Some a → IfSome o P → P a
-where_some P o a e h = subst (λ q. IfSome q P) e h
-
-pub where_none : {A : Type 0} (P : Type 0) (o : Option A) → o ≡ None → IfNone o P → P
-where_none P o e h = subst (λ q. IfNone q P) e h
-
 pub counts_kept : (old new : Table) → IsSteady old new → KeepsCounts old new
 counts_kept old new s = record { top = s.counted.rises; in_use = s.counts; limit = s.counted.limit; within = s.counted.within }
 
@@ -367,14 +361,6 @@ module _ {S : Type 0} (goes : Going S) (loses : S → S → Type 0) where
   lost_there (lost a b) = lost_twice (lost_there a) b
 
 -- ## What is said of results
-
-pub lost_where : {A S : Type 0} (loses : S → S → Type 0) (r : Result A Interruption) (o z : S) → WhereMemory r (loses o z) → WhereMemory r (IsLoss loses o z)
-lost_where loses (Ok a) o z l = tt
-lost_where loses (Err interruption.Memory) o z l = lost_once l
-lost_where loses (Err (interruption.Completed c)) o z l = tt
-lost_where loses (Err (interruption.Stopped s)) o z l = tt
-lost_where loses (Err (interruption.Exited n)) o z l = tt
-lost_where loses (Err (interruption.Cut c)) o z l = tt
 
 pub some_more : {A E : Type 0} (r : Result (Option A) E) (P Q : A → Type 0) → ((a : A) → P a → Q a) → IfOk r (λ o. IfSome o P) → IfOk r (λ o. IfSome o Q)
 some_more (Ok None) P Q f p = tt

@@ -301,15 +301,6 @@ pub noted_so : {A E P : Type 0} (r : Result A E) (b : Bool) → b ≡ is_err r �
 noted_so (Ok a) b e p f = p
 noted_so (Err x) b e p f = let clash : true ≡ false = sym e ∙ f in absurd cc
 
--- what may have become of the outside where it wanted memory
-pub lost_where : {A S : Type 0} (loses : S → S → Type 0) (r : Result A Interruption) (o z : S) → WhereMemory r (loses o z) → WhereMemory r (IsLoss loses o z)
-lost_where loses (Ok a) o z l = tt
-lost_where loses (Err interruption.Memory) o z l = lost_once l
-lost_where loses (Err (interruption.Completed c)) o z l = tt
-lost_where loses (Err (interruption.Stopped s)) o z l = tt
-lost_where loses (Err (interruption.Exited n)) o z l = tt
-lost_where loses (Err (interruption.Cut c)) o z l = tt
-
 -- and where it hands in an entry
 pub lost_entry : {S : Type 0} (loses : S → S → Type 0) (r : Result Turn Interruption) (o z : S) → OnEntry r (loses o z) → OnEntry r (IsLoss loses o z)
 lost_entry loses (Ok (turn.Entry target entry)) o z l = lost_once l

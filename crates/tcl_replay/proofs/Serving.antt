@@ -1,6 +1,6 @@
 -- What an entry of a playing comes to, and how playings go on.
 use Rattle.std.proofs.Common.{◌≡◌, inl, inr, ℕ, true, false, List, [], ◌∷◌, Some, None, Result, Ok, Err, refl, sym, ap, subst}
-use Rattle.std.specs.Prelude.{IfNone, IfSome, Option, OnOk, is_some}
+use Rattle.std.specs.Prelude.{Option, OnOk, is_some}
 use Rattle.tcl_core.specs.Endings.{Reply, ok}
 use Rattle.tcl_core.specs.Endings.Reply.{Completed, Exit, Cut}
 use Rattle.tcl_core.specs.Entries.{Entry}
@@ -116,13 +116,6 @@ goes_on style S V t o u w z target i e l b s = by (subst (λ k. PlaysEntry k (tr
     by : PlaysEntry style (tree_of t) w target i V z → Lived (language style) S o V (player_of z)
     by (inl r) = entered target i r.reply l b.0 b.1 r.stands (b.2 (tree_of t)) r.runs r.told
     by (inr m) = subst (λ U. Lived (language style) S o U (player_of z)) (sym m.same) (unfound target i l b.0 b.1 m.nobody (m.told u (b.2 (tree_of t))))
-
--- what is said where there is something, or nothing
-pub where_some : {A : Type 0} (P : A → Type 0) (o : Option A) (a : A) → o ≡ Some a → IfSome o P → P a
-where_some P o a e h = subst (λ q. IfSome q P) e h
-
-pub where_none : {A : Type 0} (P : Type 0) (o : Option A) → o ≡ None → IfNone o P → P
-where_none P o e h = subst (λ q. IfNone q P) e h
 
 -- a playing that is over is what the tree does by itself
 pub reacts : (style kept : Integers) (S T V W : Tree Own) (o z : Player Own) (ms : List (Move Own)) (n : ℕ) (x : Outcome) (outs : List (Event Own)) →

@@ -1,6 +1,6 @@
 -- What is known of an end.
 use Rattle.std.proofs.Common.{◌≡◌, ℕ, pos, List, [], sym, ap, subst, refl, ◌∙◌}
-use Rattle.std.specs.Prelude.{Result, Ok, Err, MatchResult, IfErr, Some, None}
+use Rattle.std.specs.Prelude.{Result, Ok, Err, MatchResult, IfErr, Option, Some, None, IfSome, IfNone}
 use Rattle.tcl_core.specs.Runs.{Ending}
 use Rattle.tcl_core.specs.Paths.{Path}
 use Rattle.tcl_core.specs.Trees.{Node}
@@ -292,3 +292,10 @@ completes_err r i y P Q e same h k = subst (λ (x : Result _ Interruption). OnCo
 -- the interruption of a call that is passed on
 pub passed_err : {A B : Type 0} (r : Result A Interruption) (x : Result B Interruption) (i y : Interruption) (P Q : Type 0) → r ≡ Err y → y ≡ i → x ≡ Err i → OnCompletion x P → (P → Q) → OnCompletion r Q
 passed_err r x i y P Q e same is h k = completes_err r i y P Q e same (subst (λ (z : Result _ Interruption). OnCompletion z P) is h) k
+
+-- what is said where there is something, or nothing
+pub some_holds : {A : Type 0} (P : A → Type 0) (o : Option A) (a : A) → o ≡ Some a → IfSome o P → P a
+some_holds P o a e h = subst (λ q. IfSome q P) e h
+
+pub none_holds : {A : Type 0} (P : Type 0) (o : Option A) → o ≡ None → IfNone o P → P
+none_holds P o e h = subst (λ q. IfNone q P) e h

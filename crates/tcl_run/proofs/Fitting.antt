@@ -1,14 +1,15 @@
 -- What answers a call that passes the top fits it.
-use Rattle.std.proofs.Common.{◌≡◌, ℕ, suc, ◌≤◌, ◌<◌, Bool, true, false, [], ◌∷◌, length, Option, Some, None, refl, sym, ◌∙◌, arith}
-use Rattle.std.specs.Prelude.{nat_eq, nat_le, nat_lt}
+use Rattle.std.proofs.Common.{◌≡◌, ℕ, ◌≤◌, Bool, true, false, length, Option, Some, None, refl, sym, ◌∙◌, arith}
+use Rattle.std.specs.Prelude.{nat_eq, nat_lt}
 use Rattle.std.proofs.lemmas.Bool.Decides.{nat_tests}
 use Rattle.std.proofs.lemmas.Option.{same_Some}
 use Rattle.tcl_core.proofs.PathLaws.{rise_far}
+use Rattle.tcl_core.proofs.Seeing.{idle_most}
 use Rattle.tcl_core.specs.Endings.Reply.{Completed, Stop, Exit, Cut}
 use Rattle.tcl_core.specs.Entries.{Answer, Entry}
 use Rattle.tcl_core.specs.Entries.Answer.{Replied, Nobody}
 use Rattle.tcl_core.specs.Paths.{Height, Place, rise_to}
-use Rattle.tcl_core.specs.Runs.{gone, gone_by, grown, idle_at, idle_up, is_told, levels, onward}
+use Rattle.tcl_core.specs.Runs.{gone, gone_by, idle_up, is_told, levels}
 use Rattle.tcl_core.specs.Trees.{Tree, depth_of}
 use Rattle.tcl_run.specs.Outsides.{told_to}
 use Rattle.tcl_tree.specs.Own.{Own}
@@ -95,24 +96,6 @@ pub own_reply : (a : HostReply) (q : Request) → is_reply_to a q ≡ true → i
 own_reply a q fits = sym (answers_so a q) ∙ fits
 
 -- ## Callers that are gone
-
--- no more are gone than there are
-onward_most : (k : ℕ) (o : Option ℕ) (b : Bool) → levels o ≤ k → levels (onward o k b) ≤ suc k
-onward_most k None b le = omega arith
-onward_most k (Some n) false le = omega arith
-onward_most k (Some n) true le = by (nat_le k n)
-  where
-    by : (y : Bool) → grown y n ≤ suc k
-    by true = omega arith
-    by false = omega arith
-
-idle_most : (q : Place) (T : Tree Own) → levels (idle_up T q) ≤ length q
-idle_most [] T = by (nat_eq (depth_of (T [])) 0)
-  where
-    by : (b : Bool) → levels (idle_at b) ≤ 0
-    by true = omega arith
-    by false = omega arith
-idle_most (x ∷ q) T = onward_most (length q) (idle_up (λ p. T (x ∷ p)) q) (nat_eq (depth_of (T [])) 0) (idle_most q (λ p. T (x ∷ p)))
 
 pub gone_most : (d : ℕ) (T : Tree Own) (p : Place) (l : ℕ) → gone d T p ≡ Some l → l ≤ length p
 gone_most d T p l e = by (nat_lt (depth_of (T p)) d) e

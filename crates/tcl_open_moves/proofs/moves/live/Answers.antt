@@ -10,7 +10,8 @@ use Rattle.tcl_run.proofs.Steady.{steady-refl, steady-trans}
 use Rattle.tcl_run.specs.Entering.{whole_entry}
 use Rattle.tcl_tree.specs.Own.{Own}
 use Rattle.tcl_tree.specs.TreeOf.{Marks, marks_of, tree_of}
-use Rattle.tcl_open_moves.proofs.Moving.{given_up_between, given_up_within, goes_on, not_exited, where_none, where_some}
+use Rattle.tcl_open_moves.proofs.Moving.{given_up_between, given_up_within, goes_on, not_exited}
+use Rattle.tcl_run.proofs.Endings.{none_holds, some_holds}
 use Rattle.tcl_eval.proofs.Starting.{at_any_err}
 use Rattle.tcl_open_moves.proofs.moves.live.Goals as goal
 
@@ -23,8 +24,8 @@ returns-in_err-target-clause-given_up g c = at_any_err c.from_residual.result _
 
 pub returns-in_err-exited-in-Some-clause-given_up : goal.returns-in_err-exited-in-Some-clause-given_up
 returns-in_err-exited-in-Some-clause-given_up g c =
-    let comes = where_some (λ x. (R : core.Tree Own) → g.M.Outside.goes R c.entries.outside None (event x.0.items (In None (whole_entry x.1))) c.next_entry.new.self) c.in_ok-target.field-0 _ c.in-Some.is c.in_ok-target.ensures.comes in
-    let handed = where_some (λ x. g.M.Outside.loses c.entries.outside c.next_entry.new.self) c.in_ok-target.field-0 _ c.in-Some.is c.in_ok-target.ensures.handed in
+    let comes = some_holds (λ x. (R : core.Tree Own) → g.M.Outside.goes R c.entries.outside None (event x.0.items (In None (whole_entry x.1))) c.next_entry.new.self) c.in_ok-target.field-0 _ c.in-Some.is c.in_ok-target.ensures.comes in
+    let handed = some_holds (λ x. g.M.Outside.loses c.entries.outside c.next_entry.new.self) c.in_ok-target.field-0 _ c.in-Some.is c.in_ok-target.ensures.handed in
     at_any_err c.from_residual-in_err-exited-in-Some.result _
     (given_up_within g.M.Outside.goes g.M.Outside.loses (marks_of c.args.tree.now).integers (tree_of c.args.tree.now) c.entries.tree c.args.outside.now c.entries.outside c.next_entry.new.self c.live_through.new.outside c.in-Some.target.items (whole_entry c.in-Some.entry)
     (ap (λ (m : Marks). m.integers) c.entries.invariant.1.marks) c.entries.invariant.0 comes handed c.in_err-exited-in-Some.ensures.given_up)
@@ -34,7 +35,7 @@ returns-in_err-exited-in-Some-clause-steady g c = steady-trans c.args.tree.now c
 
 pub returns-then-is_some-clause-lived : goal.returns-then-is_some-clause-lived
 returns-then-is_some-clause-lived g c =
-    let comes = where_some (λ x. (R : core.Tree Own) → g.M.Outside.goes R c.entries.outside None (event x.0.items (In None (whole_entry x.1))) c.next_entry.new.self) c.in_ok-target.field-0 _ c.in-Some.is c.in_ok-target.ensures.comes in
+    let comes = some_holds (λ x. (R : core.Tree Own) → g.M.Outside.goes R c.entries.outside None (event x.0.items (In None (whole_entry x.1))) c.next_entry.new.self) c.in_ok-target.field-0 _ c.in-Some.is c.in_ok-target.ensures.comes in
     goes_on g.M.Outside.goes (marks_of c.args.tree.now).integers (tree_of c.args.tree.now) (tree_of c.live_through.new.tree) c.entries.tree c.args.outside.now c.entries.outside c.next_entry.new.self c.live_through.new.outside c.in-Some.target.items (whole_entry c.in-Some.entry) _
     (ap (λ (m : Marks). m.integers) c.entries.invariant.1.marks) c.entries.invariant.0 comes c.in_ok-exited-in-Some.ensures.comes
 
@@ -43,7 +44,7 @@ returns-then-is_some-clause-steady g c = steady-trans c.args.tree.now c.entries.
 
 pub entries-preserved : goal.entries-preserved
 entries-preserved g c =
-    let comes = where_some (λ x. (R : core.Tree Own) → g.M.Outside.goes R c.entries.outside None (event x.0.items (In None (whole_entry x.1))) c.next_entry.new.self) c.in_ok-target.field-0 _ c.in-Some.is c.in_ok-target.ensures.comes in
+    let comes = some_holds (λ x. (R : core.Tree Own) → g.M.Outside.goes R c.entries.outside None (event x.0.items (In None (whole_entry x.1))) c.next_entry.new.self) c.in_ok-target.field-0 _ c.in-Some.is c.in_ok-target.ensures.comes in
     let lived = goes_on g.M.Outside.goes (marks_of c.args.tree.now).integers (tree_of c.args.tree.now) (tree_of c.live_through.new.tree) c.entries.tree c.args.outside.now c.entries.outside c.next_entry.new.self c.live_through.new.outside c.in-Some.target.items (whole_entry c.in-Some.entry) _
     (ap (λ (m : Marks). m.integers) c.entries.invariant.1.marks) c.entries.invariant.0 comes c.in_ok-exited-in-Some.ensures.comes in (
       subst (λ x. Lived g.M.Outside.goes (language (marks_of c.args.tree.now).integers) (tree_of c.args.tree.now) c.args.outside.now (tree_of c.live_through.new.tree) c.live_through.new.outside x) (not_exited _ (sym c.is_some.ensures ∙ c.if-is_some.false)) lived,
@@ -52,5 +53,5 @@ entries-preserved g c =
 
 pub returns-in-None-clause-lived : goal.returns-in-None-clause-lived
 returns-in-None-clause-lived g c =
-    let same = where_none (c.next_entry.new.self ≡ c.entries.outside) c.in_ok-target.field-0 c.in-None.is c.in_ok-target.ensures.none in
+    let same = none_holds (c.next_entry.new.self ≡ c.entries.outside) c.in_ok-target.field-0 c.in-None.is c.in_ok-target.ensures.none in
     subst (λ z. Lived g.M.Outside.goes (language (marks_of c.args.tree.now).integers) (tree_of c.args.tree.now) c.args.outside.now (tree_of c.entries.tree) z Finished) (sym same) c.entries.invariant.0

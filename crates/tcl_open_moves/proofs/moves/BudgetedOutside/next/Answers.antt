@@ -3,7 +3,8 @@ use Rattle.tcl_run.specs.Entering.{whole_entry}
 use Rattle.tcl_run.specs.Outsides.{ComesNext}
 use Rattle.tcl_tree.specs.TreeOf.{tree_of}
 use Rattle.tcl_open_moves.specs.OpenMoves.{by_budget}
-use Rattle.tcl_open_moves.proofs.Moving.{comes_next, lost_where}
+use Rattle.tcl_open_moves.proofs.Moving.{comes_next}
+use Rattle.tcl_run.proofs.Losing.{lost_where}
 use Rattle.tcl_open_moves.proofs.moves.BudgetedOutside.next.Goals as goal
 
 pub returns-clause-lost : goal.returns-clause-lost

@@ -2,7 +2,8 @@ use Rattle.std.proofs.Common.{refl, ◌∙◌}
 use Rattle.tcl_run.specs.Entering.{whole_entry}
 use Rattle.tcl_run.proofs.Steady.{holds_stood}
 use Rattle.tcl_tree.specs.TreeOf.{tree_of}
-use Rattle.tcl_recorder.proofs.Recorders.{comes, lost_entry, lost_where, noted_so, silent_next}
+use Rattle.tcl_recorder.proofs.Recorders.{comes, lost_entry, noted_so, silent_next}
+use Rattle.tcl_run.proofs.Losing.{lost_where}
 use Rattle.tcl_recorder.proofs.recorder.RecorderOutside.next.Goals as goal
 
 pub returns-clause-comes : goal.returns-clause-comes
