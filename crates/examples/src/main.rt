@@ -1,6 +1,6 @@
 //! Programs of an embedder, run one after the other: strangers in safe children, functions of one's
-//! own, a record and its replay, limits, errors. Each file but this one is a program by itself, with
-//! `run` in the place of `main`.
+//! own, a record and its replay, limits, errors. Each file but this one is a program by itself,
+//! with `run` in the place of `main`.
 #![tactic(auto)]
 
 mod errors;
