@@ -1,5 +1,4 @@
 //! A script that nobody trusts, in a safe child with limits of its own and two doors.
-#![tactic(auto)]
 
 use std::alloc::{AllocError, Global};
 use tcl_embed::{EmbedError, MemoryHost, Path, Tree, eval, run_text};
@@ -19,7 +18,7 @@ fn ending(tree: &mut Tree, alloc: Global, path: &Path, script: &str) -> Result<S
     run_text(alloc, &run)
 }
 
-fn main(rt: HostRuntime) -> Result<(), EmbedError> {
+pub(crate) fn run(rt: &HostRuntime) -> Result<(), EmbedError> {
     let alloc = rt.alloc();
     let mut tree = Tree::new(alloc)?;
     let (root, guest) = (Path::root(alloc), Path::parse(alloc, "guest")?);

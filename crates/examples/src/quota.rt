@@ -1,6 +1,5 @@
 //! Many strangers, each with a budget of its own: one loops, one recurses, one deletes what it can,
 //! and the others go on.
-#![tactic(auto)]
 
 use std::alloc::{AllocError, Global};
 use tcl_embed::{EmbedError, MemoryHost, Path, Text, Tree, eval, run_text};
@@ -35,7 +34,7 @@ fn ending(tree: &mut Tree, alloc: Global, path: &Path, script: &str) -> Result<S
     format!(in alloc; "{path}: {text}, {count} steps")
 }
 
-fn main(rt: HostRuntime) -> Result<(), EmbedError> {
+pub(crate) fn run(rt: &HostRuntime) -> Result<(), EmbedError> {
     let alloc = rt.alloc();
     let mut tree = Tree::new(alloc)?;
     'strangers: for (name, script) in STRANGERS {

@@ -1,5 +1,4 @@
 //! Functions of our own that a stranger calls: one answers, and one first evaluates in its caller.
-#![tactic(auto)]
 
 use std::alloc::{AllocError, Global};
 use tcl_embed::functions::{Action, Call, Functions, WithFunctions, set_function};
@@ -38,7 +37,7 @@ fn open_door(tree: &mut Tree, alloc: Global, path: &Path, name: &str) -> Result<
     Ok(set_function(tree, alloc, path.names(), name, name)?)
 }
 
-fn main(rt: HostRuntime) -> Result<(), EmbedError> {
+pub(crate) fn run(rt: &HostRuntime) -> Result<(), EmbedError> {
     let alloc = rt.alloc();
     let mut tree = Tree::new(alloc)?;
     tree.create(alloc, &[], &Text::new(alloc, "guest")?, true)?;

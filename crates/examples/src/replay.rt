@@ -1,6 +1,5 @@
 //! A stranger is watched, and the record replayed to the stranger as it was before, by itself: what
 //! it tells, and what it then is, is what it was.
-#![tactic(auto)]
 
 use std::alloc::Global;
 use tcl_embed::evaluation::end_text;
@@ -38,7 +37,7 @@ fn replay(
     Ok((replay_lines(alloc, &replayed)?, replayed.saved().same(now)))
 }
 
-fn main(rt: HostRuntime) -> Result<(), EmbedError> {
+pub(crate) fn run(rt: &HostRuntime) -> Result<(), EmbedError> {
     let alloc = rt.alloc();
     let mut tree = Tree::new(alloc)?;
     let mut host = MemoryHost::new(alloc)?;
