@@ -1,6 +1,7 @@
 //! How errors are printed: with the number that docs/REFUSALS.md has, and their text.
 
 use std::alloc::Global;
+use std::io;
 use tcl_embed::dicts::{DictError, DictFault, EntryError};
 use tcl_embed::hosts::{HostError, HostRefusal};
 use tcl_embed::lists::{ListError, ListFault};
@@ -12,9 +13,8 @@ use tcl_embed::watching::{Unwatched, eval_watched};
 use tcl_embed::{EmbedError, MemoryHost, Path, Refused, Text, Tree};
 
 /// Prints an error.
-fn show(rt: &HostRuntime, error: EmbedError) -> Result<(), EmbedError> {
-    println!(rt; "{error}")?;
-    Ok(())
+fn show(rt: &HostRuntime, error: EmbedError) -> io::Result<()> {
+    println!(rt; "{error}")
 }
 
 /// Evaluates a script that deletes the stranger who is watched.
@@ -48,7 +48,8 @@ fn show_runs(rt: &HostRuntime) -> Result<(), EmbedError> {
     if let Err(error) = delete_watched(rt.alloc()) {
         show(rt, error)?;
     }
-    show(rt, EmbedError::from(Unplayed::Waits))
+    show(rt, EmbedError::from(Unplayed::Waits))?;
+    Ok(())
 }
 
 /// Errors of calls on trees.
@@ -64,7 +65,8 @@ fn show_trees(rt: &HostRuntime) -> Result<(), EmbedError> {
     show(rt, EmbedError::from(TreeError::TooMany))?;
     show(rt, EmbedError::from(TreeError::CountLimit(2)))?;
     show(rt, EmbedError::from(TreeError::DepthLimit(0)))?;
-    show(rt, EmbedError::from(TreeError::BadDepthLimit))
+    show(rt, EmbedError::from(TreeError::BadDepthLimit))?;
+    Ok(())
 }
 
 /// Errors of values, and one of a host.
@@ -87,7 +89,8 @@ fn show_values(rt: &HostRuntime) -> Result<(), EmbedError> {
     show(
         rt,
         EmbedError::from(HostError::Refused(HostRefusal::NoChannel)),
-    )
+    )?;
+    Ok(())
 }
 
 pub(crate) fn run(rt: &HostRuntime) -> Result<(), EmbedError> {
