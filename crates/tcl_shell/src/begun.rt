@@ -1,10 +1,12 @@
 //! What a script finds: a tree of interpreters, and the variables of its command line.
-ghost use Rattle.std.specs.Prelude.{◌≡◌, ◌++◌, ℕ, List, [], ◌∷◌, true, false, IfOk, map, codes};
-ghost use Rattle.std.specs.Prelude.{take, length};
+ghost use Rattle.std.specs.Fmt.{decimal};
+ghost use Rattle.std.specs.Prelude.{◌≡◌, ◌++◌, ℕ, List, [], ◌∷◌, true, false, IfOk, OnOk, map};
+ghost use Rattle.std.specs.Prelude.{codes, take, length};
 ghost use Rattle.tcl_tree.specs.Changes.{Makes};
 ghost use Rattle.tcl_tree.specs.TreeOf.{tree_of, marks_of, alone, new_root};
 ghost use Rattle.std.specs.String.{string_bytes};
 ghost use Rattle.tcl_shell.specs.Beginning.{Begins, path_of, setting_of, set_command};
+ghost use Rattle.tcl_text.specs.Writing.{written_list};
 
 use crate::options::Options;
 use std::alloc::{AllocError, Global};
@@ -78,16 +80,39 @@ pub fn setting_of(alloc: Global, options: &Options<'_>) -> Result<String, AllocE
     ensures { IfOk result (λ script. string_bytes script
         ≡ setting_of options.now.file.now (map (λ word. word.now) options.now.arguments.items)) }
 {
-    let arguments = texts_of(alloc, options.arguments.as_slice())?;
-    let count = arguments.len();
-    let arguments = write_list(alloc, arguments.as_slice())?;
-    let count = format!(in alloc; "{count}")?;
+    let words = options.arguments.as_slice();
     let mut script = set_command(alloc, "argv0", options.file)?;
-    script.push_str("\n")?;
-    script.push_str(set_command(alloc, "argv", arguments.as_str())?.as_str())?;
-    script.push_str("\n")?;
-    script.push_str(set_command(alloc, "argc", count.as_str())?.as_str())?;
+    push_line(&mut script, set_arguments(alloc, words)?)?;
+    push_line(&mut script, set_count(alloc, words.len())?)?;
     Ok(script)
+}
+
+/// Adds a line behind a script.
+fn push_line(script: &mut String, line: String) -> Result<(), AllocError>
+    ensures { OnOk result
+        (string_bytes script.new ≡ string_bytes script.old ++ codes "\n" ++ string_bytes line) }
+{
+    script.push_str("\n")?;
+    script.push_str(line.as_str())
+}
+
+/// The command that sets `argv`.
+fn set_arguments(alloc: Global, words: &[&str]) -> Result<String, AllocError>
+    ensures { IfOk result (λ command. string_bytes command
+        ≡ set_command (codes "argv") (written_list (map (λ word. word.now) words.now))) }
+{
+    let arguments = texts_of(alloc, words)?;
+    let list = write_list(alloc, arguments.as_slice())?;
+    set_command(alloc, "argv", list.as_str())
+}
+
+/// The command that sets `argc`.
+fn set_count(alloc: Global, count: usize) -> Result<String, AllocError>
+    ensures { IfOk result
+        (λ command. string_bytes command ≡ set_command (codes "argc") (decimal count)) }
+{
+    let count = format!(in alloc; "{count}")?;
+    set_command(alloc, "argc", count.as_str())
 }
 
 /// The texts of words.
