@@ -144,12 +144,12 @@ fn standing_value(alloc: Global, standing: &Standing) -> Result<Value, AllocErro
 {
     let children = texts_value(alloc, standing.children.as_slice())?;
     json!(in alloc; {
+        "children": children,
         "safe": standing.safe,
         "count": standing.count,
         "count_limit": standing.count_limit,
         "depth": standing.depth,
-        "depth_limit": standing.depth_limit,
-        "children": children
+        "depth_limit": standing.depth_limit
     })
 }
 
@@ -157,9 +157,11 @@ fn standing_value(alloc: Global, standing: &Standing) -> Result<Value, AllocErro
 fn watched_value(alloc: Global, watched: &Watched) -> Result<Value, AllocError>
     ensures { IfOk result (λ value. view value ≡ watched_data watched.now) }
 {
-    let ended = ended_value(alloc, &watched.ended)?;
-    let lines = texts_value(alloc, watched.lines.as_slice())?;
-    json!(in alloc; {"ended": ended, "record": watched.number, "lines": lines})
+    json!(in alloc; {
+        "ended": ended_value(alloc, &watched.ended)?,
+        "record": watched.number,
+        "lines": texts_value(alloc, watched.lines.as_slice())?
+    })
 }
 
 /// A replay.
@@ -168,10 +170,10 @@ fn replayed_value(alloc: Global, replayed: &Replayed) -> Result<Value, AllocErro
 {
     let lines = texts_value(alloc, replayed.lines.as_slice())?;
     json!(in alloc; {
+        "lines": lines,
         "outcome": replayed.outcome.as_str(),
         "same": replayed.same,
-        "saved": replayed.saved,
-        "lines": lines
+        "saved": replayed.saved
     })
 }
 
@@ -259,13 +261,11 @@ pub struct ClientCall {
 fn call_object(alloc: Global, call: &ClientCall) -> Result<Value, AllocError>
     ensures { IfOk result (λ value. view value ≡ written.call_object call.now) }
 {
-    let interpreter = texts_value(alloc, call.interpreter.as_slice())?;
-    let words = texts_value(alloc, call.words.as_slice())?;
     json!(in alloc; {
         "call": call.number,
         "tree": call.tree,
-        "interpreter": interpreter,
-        "words": words
+        "interpreter": texts_value(alloc, call.interpreter.as_slice())?,
+        "words": texts_value(alloc, call.words.as_slice())?
     })
 }
 
