@@ -6,6 +6,8 @@ ghost use Rattle.std.specs.Vec.{vec_capacity};
 ghost use Rattle.std.specs.Prelude.{reverse, nat_lt, ◌↔◌, IsTrue};
 ghost use Rattle.tcl_frames.specs.Chain.{least};
 
+mod hints;
+
 use crate::arrays::{elements_taken, keys_taken, owned_pattern};
 use crate::keys::change_key_in;
 use crate::links::link_frames;
