@@ -232,6 +232,13 @@ impl<V: Drop> FewNames<V> {
         self.push(name, value)
     }
 
+    /// Takes all names out. Their room is kept.
+    pub fn clear(&mut self)
+        ensures { self.new ≡ [] }
+    {
+        self.entries.clear();
+    }
+
     /// Takes the names out that a pattern matches.
     pub fn remove_matching(&mut self, pattern: &str)
         ensures { self.new ≡ unmatched pattern.now self.old }

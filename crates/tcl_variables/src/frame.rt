@@ -106,6 +106,30 @@ impl Frame {
         }
     }
 
+    /// A frame with these words and no variables, in the room of those of a frame that was let go.
+    /// This takes no memory.
+    pub fn in_room(alloc: Global, room: NameMap<Variable>, words: Vec<Value>) -> Frame
+        ensures words { result.words ≡ words.items }
+        ensures variables { result.variables ≡ [] }
+    {
+        match room.emptied() {
+            Some(variables) => Frame { words, variables },
+            None => Frame::new(alloc, words),
+        }
+    }
+
+    /// Lets the frame go, and keeps the room of its variables, with nothing in it, where that isn't
+    /// large. This takes no memory.
+    pub fn into_room(self) -> Option<NameMap<Variable>>
+        ensures { IfSome result (λ room. room ≡ []) }
+    {
+        let Frame {
+            words: _words,
+            variables,
+        } = self;
+        variables.emptied()
+    }
+
     /// The words of its call.
     pub fn words(&self) -> &[Value]
         ensures { result.now ≡ self.now.words }

@@ -230,6 +230,23 @@ impl<V: Drop> NameMap<V> {
         }
     }
 
+    /// The empty map in the room of this one. Where this one finds its names by their hashes there
+    /// is none, since a table may be large. This takes no memory.
+    pub fn emptied(self) -> Option<NameMap<V>>
+        ensures { IfSome result (λ map. map ≡ []) }
+    {
+        let NameMap { entries } = self;
+        match entries {
+            Entries::Few(mut few) => {
+                few.clear();
+                Some(NameMap {
+                    entries: Entries::Few(few),
+                })
+            }
+            Entries::Many(_) => None,
+        }
+    }
+
     /// Takes the names out that a pattern matches, in time linear in their number. This takes no
     /// memory.
     pub fn remove_matching(&mut self, pattern: &str)
