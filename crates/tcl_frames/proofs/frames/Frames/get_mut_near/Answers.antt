@@ -5,7 +5,7 @@ use Rattle.tcl_variables.specs.Faults.{Refuses}
 use Rattle.tcl_variables.specs.Names.{Text}
 use Rattle.tcl_variables.proofs.FrameLemmas.{at_some}
 use Rattle.tcl_frames.specs.Chain.{Chain, read, after_set}
-use Rattle.tcl_frames.proofs.frames.hints.Frames.get_mut_near.Goals as goal
+use Rattle.tcl_frames.proofs.frames.Frames.get_mut_near.Goals as goal
 
 pub returns-in-Some : goal.returns-in-Some
 returns-in-Some c = (
