@@ -148,6 +148,8 @@ fn eval_commands<O: Outside>(
     let mut last = Value::empty();
     let all = script.commands();
     'commands: for command in all {
+        // (what the last one shares with a variable is then changed in place)
+        last = Value::empty();
         last = on_ok(eval_command(tree, alloc, outside, place, command))?;
     }
     finish(alloc, script.fault(), last)

@@ -10,3 +10,4 @@ pub mod LendLemmas
 pub mod KeyLemmas
 pub mod SameChains
 pub mod ArrayLemmas
+pub mod NearLemmas

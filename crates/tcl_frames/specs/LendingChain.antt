@@ -1,6 +1,6 @@
 -- What is lent out of a chain.
-use Rattle.std.specs.Prelude.{◌≡◌, ℕ, Option, Result, Ok}
-use Rattle.std.specs.Borrow.{LendsSoOk, MutBor, Fml}
+use Rattle.std.specs.Prelude.{◌≡◌, ℕ, Option, Result, Ok, OnSome}
+use Rattle.std.specs.Borrow.{LendsSo, LendsSoOk, MutBor, Fml}
 use Rattle.tcl_variables.specs.Names.{Text}
 use Rattle.tcl_variables.specs.Variables.{Part, part_of}
 use Rattle.tcl_variables.specs.declared.frame.Change.TheVariants.{Assign}
@@ -30,4 +30,9 @@ LendsEnd s n b key x r = LendsSoOk the_row value_row s r
 -- once the borrow ends, the chain is as after a set of the name to the value that was left
 abbrev pub LendsSet : MutBor Chain → Text → Result (MutBor Text) FrameError → Fml
 LendsSet s x r = LendsSoOk the_row value_row s r (λ c w. after_set s.now x w ≡ Ok c)
+    (λ c. c ≡ s.now)
+
+-- the same where the chain is as it was at `None`
+abbrev pub LendsNear : MutBor Chain → Text → Option (MutBor Text) → Fml
+LendsNear s x r = LendsSo the_row value_row s r (λ c w. OnSome r (after_set s.now x w ≡ Ok c))
     (λ c. c ≡ s.now)

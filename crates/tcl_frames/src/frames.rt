@@ -1,10 +1,12 @@
 //! The chain of frames of an interpreter.
 ghost use Rattle.std.specs.Prelude.{◌≡◌, ◌+◌, ◌<◌, ◌≤◌, Ok, length, take, drop, IfOk, OnOk, IfErr};
-ghost use Rattle.std.specs.Prelude.{OnErr};
+ghost use Rattle.std.specs.Prelude.{OnErr, [], ◌-◌, vec_len};
 ghost use Rattle.std.specs.Option.{option_copied};
 ghost use Rattle.std.specs.Vec.{vec_capacity};
 ghost use Rattle.std.specs.Prelude.{reverse, nat_lt, ◌↔◌, IsTrue};
 ghost use Rattle.tcl_frames.specs.Chain.{least};
+
+mod hints;
 
 use crate::arrays::{elements_taken, keys_taken, owned_pattern};
 use crate::keys::change_key_in;
@@ -22,6 +24,10 @@ use tcl_variables::fault::{FrameError, FrameFault, NameFault, refused};
 use tcl_variables::frame::{Change, Frame};
 use tcl_variables::name::read_name;
 use tcl_variables::name_map::NameMap;
+use tcl_variables::variable::Variable;
+
+/// The most frames that may stand where room is taken to keep that of one more.
+const MOST_SPARE: usize = 64;
 
 /// Frames that were set aside: those that stood above a level.
 #[derive(Drop)]
@@ -63,6 +69,8 @@ impl Same for SetAside {
 pub struct Frames {
     frames: Vec<Frame>,
     aside: Vec<SetAside>,
+    // The room of the variables of frames that were taken off, for the next ones.
+    spare: Vec<NameMap<Variable>>,
 }
 
 impl Drop for Frames {
@@ -70,6 +78,7 @@ impl Drop for Frames {
         let Frames {
             frames: _frames,
             aside: _aside,
+            spare: _spare,
         } = self;
     }
 }
@@ -109,6 +118,42 @@ fn split_frames(frames: &mut Vec<Frame>, alloc: Global, at: usize) -> Result<Vec
     Ok(rest)
 }
 
+/// A frame with these words and no variables, in a room that is spare. Where none is, there is room
+/// afterwards to keep that of so many frames, if they aren't too many.
+fn frame_in(
+    spare: &mut Vec<NameMap<Variable>>,
+    alloc: Global,
+    words: Vec<Value>,
+    count: usize,
+) -> Result<Frame, AllocError>
+    ensures words { IfOk result (λ frame. frame.words ≡ words.items) }
+    ensures variables { IfOk result (λ frame. frame.variables ≡ []) }
+{
+    if let Some(room) = spare.pop() {
+        return Ok(Frame::in_room(alloc, room, words));
+    }
+    if count < MOST_SPARE {
+        spare.reserve(count)?;
+    }
+    Ok(Frame::new(alloc, words))
+}
+
+/// Takes the frame on top off, and keeps the room of its variables, where there is room for that.
+fn take_off(frames: &mut Vec<Frame>, spare: &mut Vec<NameMap<Variable>>)
+    ensures items { frames.new.items ≡ take (vec_len frames.old - 1) frames.old.items }
+    ensures capacity { vec_capacity frames.new ≡ vec_capacity frames.old }
+{
+    let Some(frame) = frames.pop() else {
+        return;
+    };
+    let Some(room) = frame.into_room() else {
+        return;
+    };
+    if spare.len() < spare.capacity() {
+        spare.push_reserved(room);
+    }
+}
+
 /// Whether a pop takes a frame off, where there are so many frames.
 fn may_pop(aside: &[SetAside], count: usize) -> bool
     ensures { result ≡ nat_lt (least (reverse aside.now)) count }
@@ -120,7 +165,7 @@ fn may_pop(aside: &[SetAside], count: usize) -> bool
 }
 
 impl Frames {
-    ghost use Rattle.std.specs.Prelude.{[], ◌∷◌, IsSome};
+    ghost use Rattle.std.specs.Prelude.{◌∷◌, IsSome};
     ghost use Rattle.tcl_frames.specs.Chain.{fresh, read, exists_at, array_at, after_set};
     ghost use Rattle.tcl_frames.specs.Chain.{after_array, after_unset, after_link, with_frames};
     ghost use Rattle.tcl_frames.specs.Chain.{names_of, words_at, pushed, popped, set_aside};
@@ -146,6 +191,7 @@ impl Frames {
         Ok(Frames {
             frames,
             aside: Vec::new(alloc),
+            spare: Vec::new(alloc),
         })
     }
 
@@ -160,7 +206,12 @@ impl Frames {
         let room = self.frames.capacity().saturating_sub(self.frames.len());
         frames.reserve(room)?;
         let aside = self.aside.clone()?;
-        Ok(Frames { frames, aside })
+        let spare = Vec::new(*self.spare.allocator());
+        Ok(Frames {
+            frames,
+            aside,
+            spare,
+        })
     }
 
     /// Whether the other is an equal chain: the same words, the same names in the same order and
@@ -493,7 +544,9 @@ impl Frames {
         ensures ok { OnOk result (self.new ≡ pushed self.old words.items) }
         ensures unchanged { OnErr result (self.new ≡ self.old) }
     {
-        self.frames.push(Frame::new(alloc, words))?;
+        let count = self.frames.len();
+        let frame = frame_in(&mut self.spare, alloc, words, count)?;
+        self.frames.push(frame)?;
         Ok(())
     }
 
@@ -504,7 +557,7 @@ impl Frames {
     {
         let count = self.frames.len();
         if may_pop(self.aside.as_slice(), count) {
-            self.frames.truncate(count - 1);
+            take_off(&mut self.frames, &mut self.spare);
         }
     }
 

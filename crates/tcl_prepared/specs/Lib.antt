@@ -1,4 +1,3 @@
-pub mod Names
 pub mod Views
 pub mod Brackets
 pub mod Falls

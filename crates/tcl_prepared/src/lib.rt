@@ -2,7 +2,6 @@
 //! the scripts in brackets read along with it.
 #![tactic(auto)]
 
-pub mod name;
 mod pieces;
 pub mod prepared;
 pub mod preparing;

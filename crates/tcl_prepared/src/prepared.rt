@@ -5,7 +5,6 @@ ghost use Rattle.tcl_value.specs.Texts.{AllWithin};
 ghost use Rattle.tcl_prepared.specs.Views.{seen_command};
 ghost use Rattle.tcl_prepared.specs.Brackets.{IsBracket};
 
-use crate::name::VariableName;
 use crate::pieces::commands_pieces;
 use std::alloc::AllocError;
 use std::marker::Model;
@@ -13,6 +12,7 @@ use std::rc::Rc;
 use tcl_parser::fault::Fault;
 use tcl_text::text::Text;
 use tcl_value::value::Value;
+use tcl_variables::variable_name::VariableName;
 
 /// The words of a command each of which stands for itself. Contracts see them as their texts.
 pub struct Literals {

@@ -9,7 +9,6 @@ ghost use Rattle.tcl_prepared.specs.Views.{literal_parts, literal_word};
 ghost use Rattle.tcl_prepared.specs.Brackets.{part_weight, parts_weight, words_weight};
 ghost use Rattle.tcl_prepared.specs.Brackets.{commands_weight};
 
-use crate::name::VariableName;
 use crate::prepared::{
     Bracket, Literals, Prepared, PreparedCommand, PreparedPart, PreparedText, PreparedWord,
 };
@@ -19,6 +18,7 @@ use tcl_parser::reader::parse;
 use tcl_parser::script::{Command, Part, Script, Word};
 use tcl_text::text::Text;
 use tcl_value::value::Value;
+use tcl_variables::variable_name::VariableName;
 
 /// How deep scripts in brackets are read with the script that they stand in.
 pub const MOST_LEVELS: u32 = 16;

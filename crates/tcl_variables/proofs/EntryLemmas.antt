@@ -173,3 +173,11 @@ module _ {V : Type 0} where
 
   pub found_at : (es : List (String Global × V)) (i : ℕ) (q : Text) → IsDistinct string_eq (keys_of es) → StandsAt q es i → slice_get (values_of es) i ≡ lookup (λ k. bytes_eq q (string_bytes k)) es
   found_at es i q h s = value_at es i s.0 s.1 s.2 ∙ sym (lookup_own es i s.0 s.1 h s.2) ∙ ap (λ (x : Text). lookup (λ k. bytes_eq x (string_bytes k)) es) s.3
+
+  -- what is found at a place is what the name that stands there has
+  pub got_at : (es : List (String Global × V)) (i : ℕ) (q : Text) (k : String Global) (v : V) → slice_get es i ≡ Some (k, v) → StandsAt q es i → lookup (string_eq k) es ≡ Some v → Some v ≡ lookup (bytes_eq q) (named es)
+  got_at es i q k v at s found =
+      let there : Some (s.0, s.1) ≡ Some (k, v) = sym s.2 ∙ at in
+      let same : (s.0, s.1) ≡ (k, v) = cc in
+      let is : string_bytes k ≡ q = sym (ap (λ (e : String Global × V). string_bytes e.0) same) ∙ s.3 in
+      sym found ∙ ap (λ (x : Text). lookup (λ j. bytes_eq x (string_bytes j)) es) is ∙ sym (lookup-named q es)

@@ -1,6 +1,6 @@
 //! What is done to one variable.
 ghost use Rattle.std.specs.Prelude.{◌≡◌, ℕ, List, [], ◌∷◌, Ok, Err, Some, None, true, false, IfOk};
-ghost use Rattle.std.specs.Prelude.{IfErr, OnOk, OnErr, MatchOption};
+ghost use Rattle.std.specs.Prelude.{IfErr, IfSome, OnOk, OnErr, MatchOption};
 ghost use Rattle.std.specs.Option.{option_copied};
 ghost use Rattle.std.specs.Map.{lookup};
 ghost use Rattle.std.specs.Str.{bytes_eq};
@@ -299,7 +299,20 @@ impl Variable {
 
 impl Variable {
     ghost use Rattle.std.specs.Borrow.{sem};
-    ghost use Rattle.tcl_variables.specs.LendingParts.{LendsPart, LendsElements};
+    ghost use Rattle.tcl_variables.specs.LendingParts.{LendsPart, LendsElements, LendsWhole};
+    ghost use Rattle.tcl_variables.specs.declared.variable.Variable.TheVariants.{Scalar};
+
+    /// The value that it is, to write, if it is one.
+    pub fn as_scalar_mut(&mut self) -> Option<&mut Value>
+        ensures* writes_back { sem 𝓛 (LendsWhole self.entry result) }
+        ensures scalar { IfSome result (λ v. self.old ≡ Scalar v.now) }
+    {
+        match self {
+            Variable::Scalar(value) => Some(value),
+            Variable::Array(_) => None,
+            Variable::Link(_) => None,
+        }
+    }
 
     fn scalar_mut(&mut self, name: &Text) -> Result<&mut Value, FrameError>
         ensures* writes_back { sem 𝓛 (LendsPart self.entry whole name.now result) }

@@ -12,6 +12,7 @@ ghost use Rattle.tcl_glob.specs.Patterns.{is_match};
 ghost use Rattle.tcl_variables.specs.Arrays.{unmatched};
 ghost use Rattle.tcl_variables.specs.Entries.{lent_entry, Holds};
 
+use crate::variable_name::VariableName;
 use std::alloc::{AllocError, Global};
 use std::marker::Model;
 use tcl_glob::matches;
@@ -61,6 +62,20 @@ fn place_near<V>(entries: &[(Text, V)], place: usize, name: &str) -> Option<usiz
     place_of(entries, name)
 }
 
+/// The same, in less time where it is the place at which the name was found last.
+fn hinted_place<V>(entries: &[(Text, V)], name: &VariableName) -> Option<usize>
+    ensures { MatchOption result (lookup (bytes_eq name.now) entries.now ≡ None)
+        (λ i. Holds name.now entries.now i) }
+{
+    match place_near(entries, name.hint(), name.as_str()) {
+        Some(place) => {
+            name.set_hint(place);
+            Some(place)
+        }
+        None => None,
+    }
+}
+
 impl<V> FewNames<V> {
     /// No names, which take no memory.
     pub fn new(alloc: Global) -> FewNames<V>
@@ -83,6 +98,16 @@ impl<V> FewNames<V> {
         ensures { option_copied result ≡ lookup (bytes_eq name.now) self.now }
     {
         match place_of(self.entries.as_slice(), name) {
+            Some(place) => Some(&self.entries[place].1),
+            None => None,
+        }
+    }
+
+    /// The same, in less time where the name stands where it was found last.
+    pub fn get_hinted(&self, name: &VariableName) -> Option<&V>
+        ensures { option_copied result ≡ lookup (bytes_eq name.now) self.now }
+    {
+        match hinted_place(self.entries.as_slice(), name) {
             Some(place) => Some(&self.entries[place].1),
             None => None,
         }
@@ -162,6 +187,20 @@ impl<V> FewNames<V> {
             None => None,
         }
     }
+
+    /// The same, in less time where the name stands where it was found last.
+    pub fn get_mut_hinted(&mut self, name: &VariableName) -> Option<&mut V>
+        ensures* writes_back { sem 𝓛 (lends_few V.row self.entry name.now result) }
+        ensures value { option_copied_mut result ≡ lookup (bytes_eq name.now) self.old }
+    {
+        match hinted_place(self.entries.as_slice(), name) {
+            Some(place) => match self.entries.get_mut(place) {
+                Some(entry) => Some(&mut entry.1),
+                None => None,
+            },
+            None => None,
+        }
+    }
 }
 
 impl<V: Drop> FewNames<V> {
@@ -191,6 +230,13 @@ impl<V: Drop> FewNames<V> {
             return Ok(());
         }
         self.push(name, value)
+    }
+
+    /// Takes all names out. Their room is kept.
+    pub fn clear(&mut self)
+        ensures { self.new ≡ [] }
+    {
+        self.entries.clear();
     }
 
     /// Takes the names out that a pattern matches.

@@ -13,6 +13,7 @@ use crate::access::{Part, elements_in, new_array, new_variable};
 use crate::fault::{FrameError, NameFault, Verb, refused, refused_elements};
 use crate::name_map::NameMap;
 use crate::variable::{LinkTarget, Variable};
+use crate::variable_name::VariableName;
 use std::alloc::{AllocError, Global};
 use std::marker::Model;
 use tcl_text::text::Text;
@@ -92,7 +93,7 @@ impl Frame {
     ghost use Rattle.tcl_variables.specs.Arrays.{extended, thinned};
     ghost use Rattle.tcl_variables.specs.Rebinding.{rebound, unbound, with_variable, emptied};
     ghost use Rattle.tcl_variables.specs.Rebinding.{change_frame};
-    ghost use Rattle.tcl_variables.specs.declared.variable.Variable.TheVariants.{Link};
+    ghost use Rattle.tcl_variables.specs.declared.variable.Variable.TheVariants.{Scalar, Link};
 
     /// A frame with these words and no variables, which takes no memory.
     pub fn new(alloc: Global, words: Vec<Value>) -> Frame
@@ -103,6 +104,30 @@ impl Frame {
             words,
             variables: NameMap::new(alloc),
         }
+    }
+
+    /// A frame with these words and no variables, in the room of those of a frame that was let go.
+    /// This takes no memory.
+    pub fn in_room(alloc: Global, room: NameMap<Variable>, words: Vec<Value>) -> Frame
+        ensures words { result.words ≡ words.items }
+        ensures variables { result.variables ≡ [] }
+    {
+        match room.emptied() {
+            Some(variables) => Frame { words, variables },
+            None => Frame::new(alloc, words),
+        }
+    }
+
+    /// Lets the frame go, and keeps the room of its variables, with nothing in it, where that isn't
+    /// large. This takes no memory.
+    pub fn into_room(self) -> Option<NameMap<Variable>>
+        ensures { IfSome result (λ room. room ≡ []) }
+    {
+        let Frame {
+            words: _words,
+            variables,
+        } = self;
+        variables.emptied()
     }
 
     /// The words of its call.
@@ -124,6 +149,25 @@ impl Frame {
         ensures { option_copied result ≡ lookup (bytes_eq name.now) self.now.variables }
     {
         self.variables.get(name)
+    }
+
+    /// The same, in less time where the name stands where it was found last.
+    pub fn variable_near(&self, name: &VariableName) -> Option<&Variable>
+        ensures { option_copied result ≡ lookup (bytes_eq name.now) self.now.variables }
+    {
+        self.variables.get_hinted(name)
+    }
+
+    /// The value that a name stands for, where it stands for one, in less time where the name
+    /// stands where it was found last.
+    pub fn scalar_near(&self, name: &VariableName) -> Option<&Value>
+        ensures { IfSome result
+            (λ v. lookup (bytes_eq name.now) self.now.variables ≡ Some (Scalar v.now)) }
+    {
+        match self.variable_near(name) {
+            Some(Variable::Scalar(value)) => Some(value),
+            _ => None,
+        }
     }
 
     /// Sets a part of what a name stands for.
@@ -396,7 +440,8 @@ impl Frame {
 
 impl Frame {
     ghost use Rattle.std.specs.Borrow.{sem};
-    ghost use Rattle.tcl_variables.specs.LendingParts.{LendsNamed};
+    ghost use Rattle.tcl_variables.specs.LendingParts.{LendsNamed, LendsScalar};
+    ghost use Rattle.tcl_variables.specs.declared.variable.Variable.TheVariants.{Scalar};
 
     /// The place at which a name stands, where it is no link.
     pub fn unlinked_place(&self, base: &str) -> Option<usize>
@@ -435,6 +480,19 @@ impl Frame {
         match self.variables.get_mut_near(place, base) {
             Some(found) => found.value_mut(part, name),
             None => Err(unread(part, name)),
+        }
+    }
+
+    /// The value that a name stands for, to write, where it stands for one, in less time where the
+    /// name stands where it was found last. This takes no memory.
+    pub fn scalar_mut_near(&mut self, name: &VariableName) -> Option<&mut Value>
+        ensures* writes_back { sem 𝓛 (LendsScalar self.entry name.now result) }
+        ensures scalar { IfSome result
+            (λ v. lookup (bytes_eq name.now) self.old.variables ≡ Some (Scalar v.now)) }
+    {
+        match self.variables.get_mut_hinted(name) {
+            Some(variable) => variable.as_scalar_mut(),
+            None => None,
         }
     }
 }

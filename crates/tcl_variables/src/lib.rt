@@ -10,3 +10,4 @@ mod many_names;
 pub mod name;
 pub mod name_map;
 pub mod variable;
+pub mod variable_name;

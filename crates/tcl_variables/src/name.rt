@@ -72,7 +72,7 @@ fn of_level<'a>(base: &'a str, key: Option<&'a str>) -> Option<Written<'a>>
 }
 
 /// Whether a text holds neither a colon nor a close parenthesis, as most names do.
-fn is_simple(name: &str) -> bool
+pub(crate) fn is_simple(name: &str) -> bool
     ensures { result ≡ is_simple name.now }
 {
     for b in name.as_bytes() {

@@ -10,6 +10,7 @@ ghost use Rattle.tcl_variables.specs.Entries.{lent_entry};
 
 use crate::few_names::FewNames;
 use crate::many_names::ManyNames;
+use crate::variable_name::VariableName;
 use std::alloc::{AllocError, Global};
 use std::marker::Model;
 use tcl_text::text::Text;
@@ -74,6 +75,16 @@ impl<V> NameMap<V> {
         }
     }
 
+    /// The same, in less time where the name stands where it was found last.
+    pub fn get_hinted(&self, name: &VariableName) -> Option<&V>
+        ensures { option_copied result ≡ lookup (bytes_eq name.now) self.now }
+    {
+        match &self.entries {
+            Entries::Few(few) => few.get_hinted(name),
+            Entries::Many(many) => many.get_hinted(name),
+        }
+    }
+
     /// The entry at a place in the order of insertion, from 0. This takes no memory.
     pub fn entry(&self, index: usize) -> Option<(&str, &V)>
         ensures { option_map lent_entry result ≡ slice_get self.now index }
@@ -120,6 +131,18 @@ impl<V> NameMap<V> {
         match &mut self.entries {
             Entries::Few(few) => few.get_mut_near(place, name),
             Entries::Many(many) => many.get_mut_near(place, name),
+        }
+    }
+
+    /// What a name has, to write, in less time where the name stands where it was found last. This
+    /// takes no memory.
+    pub fn get_mut_hinted(&mut self, name: &VariableName) -> Option<&mut V>
+        ensures* writes_back { sem 𝓛 (lends_named V.row self.entry name.now result) }
+        ensures value { option_copied_mut result ≡ lookup (bytes_eq name.now) self.old }
+    {
+        match &mut self.entries {
+            Entries::Few(few) => few.get_mut_hinted(name),
+            Entries::Many(many) => many.get_mut_hinted(name),
         }
     }
 }
@@ -204,6 +227,23 @@ impl<V: Drop> NameMap<V> {
                 self.entries = Entries::Many(many);
                 inserted
             }
+        }
+    }
+
+    /// The empty map in the room of this one. Where this one finds its names by their hashes there
+    /// is none, since a table may be large. This takes no memory.
+    pub fn emptied(self) -> Option<NameMap<V>>
+        ensures { IfSome result (λ map. map ≡ []) }
+    {
+        let NameMap { entries } = self;
+        match entries {
+            Entries::Few(mut few) => {
+                few.clear();
+                Some(NameMap {
+                    entries: Entries::Few(few),
+                })
+            }
+            Entries::Many(_) => None,
         }
     }
 

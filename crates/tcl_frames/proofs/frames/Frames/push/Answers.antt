@@ -2,11 +2,11 @@ use Rattle.std.proofs.Common.{reverse}
 use Rattle.tcl_frames.proofs.ChainLemmas.{sound_push, sound_kept}
 use Rattle.tcl_frames.proofs.frames.Frames.push.Goals as goal
 
-pub invariant_of-self : goal.invariant_of-self
-invariant_of-self c =
+pub invariant_of-self-in_err-push : goal.invariant_of-self-in_err-push
+invariant_of-self-in_err-push c =
     sound_kept c.self.inside.frames.items c.push.new.self.items (reverse c.self.inside.aside.items) c.self.inside.frames.cap c.push.new.self.cap c.in_err-push.ensures.items c.in_err-push.ensures.capacity c.self.invariant
 
 pub invariant_of-self-2 : goal.invariant_of-self-2
 invariant_of-self-2 c =
-    sound_push c.self.inside.frames.items c.push.new.self.items c.new.result (reverse c.self.inside.aside.items) c.args.words.items c.self.inside.frames.cap c.push.new.self.cap
-    c.in_ok-push.ensures.items c.new.ensures.words c.new.ensures.variables c.in_ok-push.ensures.capacity c.self.invariant
+    sound_push c.self.inside.frames.items c.push.new.self.items c.in_ok-frame.frame (reverse c.self.inside.aside.items) c.args.words.items c.self.inside.frames.cap c.push.new.self.cap
+    c.in_ok-push.ensures.items c.in_ok-frame.ensures.words c.in_ok-frame.ensures.variables c.in_ok-push.ensures.capacity c.self.invariant

@@ -1,0 +1,74 @@
+-- A name that is one of the current frame, and stands for a value there.
+use Rattle.std.proofs.Common.{◌≡◌, ℕ, ◌-◌, ◌<◌, true, false, length, slice_get, slice_set, List, Option, Some, None, Ok, refl, sym, ◌∙◌, ap, subst}
+use Rattle.std.specs.Prelude.{IfSome}
+use Rattle.std.specs.Borrow.{Bor}
+use Rattle.std.specs.Map.{lookup}
+use Rattle.std.specs.Str.{bytes_eq}
+use Rattle.tcl_variables.specs.Names.{Text, is_simple}
+use Rattle.tcl_variables.specs.Variables.{Frame}
+use Rattle.tcl_variables.specs.Variables.Part.{whole}
+use Rattle.tcl_variables.specs.Access.{assigned, value_of}
+use Rattle.tcl_variables.specs.Rebinding.{rebound, with_variable}
+use Rattle.tcl_variables.specs.declared.variable.Variable.TheVariants.{Scalar}
+use Rattle.tcl_variables.specs.declared.frame.Change.TheVariants.{Assign}
+use Rattle.tcl_variables.proofs.NameLemmas.{simple_name}
+use Rattle.tcl_frames.specs.Places.{Levels, Spot, current, bound, end_of}
+use Rattle.tcl_frames.specs.Chain.{Aside, Chain, read, written, after_set}
+use Rattle.tcl_frames.specs.Changes.{change_levels}
+use Rattle.tcl_frames.specs.Reached.{start, over, link_of}
+use Rattle.tcl_frames.specs.Sound.{IsSound}
+use Rattle.tcl_frames.proofs.ChainLemmas.{chain, less, with_ok, sound_positive}
+use Rattle.tcl_frames.proofs.ReachLemmas.{follow_here}
+use Rattle.tcl_frames.proofs.SoundLemmas.{bound_at}
+use Rattle.tcl_frames.proofs.StepLemmas.{read_is, written_is, change_is, change_level, below_current}
+
+module _ (fs : Levels) (n : ℕ) (x t : Text) (f : Frame) (simple : is_simple x ≡ true) (is : n ≡ current fs) (at : slice_get fs n ≡ Some f) (found : lookup (bytes_eq x) f.variables ≡ Some (Scalar t)) where
+  bound_is : bound fs n x ≡ Some (Scalar t)
+  bound_is = bound_at fs n x f at ∙ found
+
+  stays : end_of fs (start n x) ≡ start n x
+  stays = follow_here fs (start n x) (ap link_of bound_is)
+
+  pub read_scalar : read fs x ≡ Ok t
+  read_scalar =
+      read_is fs x (record { is_global = false; base = x; key = None }) n (simple_name x simple) is
+      ∙ ap (λ (p : Spot). value_of p.part (bound fs p.level p.name) x) stays
+      ∙ ap (λ o. value_of whole o x) bound_is
+
+  set_scalar : (w : Text) → written fs x w ≡ change_levels (Assign w) fs (start n x) x
+  set_scalar w =
+      written_is fs x w
+      ∙ change_is (Assign w) fs x (record { is_global = false; base = x; key = None }) n (simple_name x simple) is
+      ∙ ap (λ (p : Spot). change_levels (Assign w) fs p x) stays
+
+  pub scalar_rebound : (g : Frame) (w : Text) → g ≡ with_variable f x (Scalar w) → rebound f x (assigned whole (lookup (bytes_eq x) f.variables) w x) ≡ Ok g
+  scalar_rebound g w made = ap (λ o. rebound f x (assigned whole o w x)) found ∙ ap Ok (sym made)
+
+  pub written_scalar : (g : Frame) (w : Text) → g ≡ with_variable f x (Scalar w) → written fs x w ≡ Ok (slice_set fs n g)
+  written_scalar g w made = set_scalar w ∙ change_level (Assign w) fs (start n x) f g x at (scalar_rebound g w made)
+
+-- the same in the chain as it was passed
+module _ (fs : Levels) (as' : List Aside) (self : Chain) (same : chain fs as' ≡ self) (n : ℕ) (x t : Text) (f : Frame) (simple : is_simple x ≡ true) (is : n ≡ current self.frames) (at : slice_get fs n ≡ Some f) (found : lookup (bytes_eq x) f.variables ≡ Some (Scalar t)) where
+  level_is : n ≡ current fs
+  level_is = is ∙ ap (λ (s : Chain). current s.frames) (sym same)
+
+  pub read_there : read self.frames x ≡ Ok t
+  read_there = subst (λ (s : Chain). read s.frames x ≡ Ok t) same (read_scalar fs n x t f simple level_is at found)
+
+  pub rebound_there : (g : Frame) (w : Text) → g ≡ with_variable f x (Scalar w) → rebound f x (assigned whole (lookup (bytes_eq x) f.variables) w x) ≡ Ok g
+  rebound_there = scalar_rebound fs n x t f simple level_is at found
+
+  pub set_there : (g : Frame) (w : Text) → g ≡ with_variable f x (Scalar w) → after_set self x w ≡ Ok (chain (slice_set fs n g) as')
+  set_there g w made =
+      subst (λ (s : Chain). after_set s x w ≡ Ok (chain (slice_set fs n g) as')) same
+      (with_ok fs (slice_set fs n g) as' (written fs x w) (written_scalar fs n x t f simple level_is at found g w made))
+
+pub read_last : (fs : Levels) (self : Chain) (x : Text) (f : Frame) (r : Option (Bor Text)) → fs ≡ self.frames → is_simple x ≡ true → slice_get fs (length fs - 1) ≡ Some f → IfSome r (λ v. lookup (bytes_eq x) f.variables ≡ Some (Scalar v.now))
+    → IfSome r (λ v. read self.frames x ≡ Ok v.now)
+read_last fs self x f None same simple at found = tt
+read_last fs self x f (Some v) same simple at found =
+    subst (λ (gs : Levels). read gs x ≡ Ok v.now) same
+    (read_scalar fs (current fs) x v.now f simple refl (ap (slice_get fs) (sym (less (length fs))) ∙ at) found)
+
+pub below : (fs : Levels) (as' : List Aside) (self : Chain) → chain fs as' ≡ self → (n : ℕ) → n ≡ current self.frames → IsSound (chain fs as') → n < length fs
+below fs as' self same n is sound = below_current false fs n (is ∙ ap (λ (s : Chain). current s.frames) (sym same)) (sound_positive (chain fs as') sound)

@@ -1,0 +1,80 @@
+//! Names that are looked up in less time where they stand where they were found last.
+ghost use Rattle.std.specs.Prelude.{◌≡◌, Ok, IfOk, OnOk, IfErr, OnErr, IfSome};
+ghost use Rattle.std.specs.Borrow.{sem};
+ghost use Rattle.tcl_variables.specs.Faults.{Refuses};
+ghost use Rattle.tcl_frames.specs.Chain.{read, after_set};
+ghost use Rattle.tcl_frames.specs.LendingChain.{LendsNear};
+
+use crate::frames::Frames;
+use std::alloc::Global;
+use tcl_value::value::Value;
+use tcl_variables::fault::FrameError;
+use tcl_variables::variable_name::VariableName;
+
+impl Frames {
+    /// The value that a name holds, if it is that of a variable of the current frame and no array
+    /// or link. This takes no memory.
+    pub fn scalar_near(&self, name: &VariableName) -> Option<&Value>
+        ensures { IfSome result (λ value. read self.now.frames name.now ≡ Ok value.now) }
+    {
+        if !name.is_simple() {
+            return None;
+        }
+        match self.frames.last() {
+            Some(frame) => frame.scalar_near(name),
+            None => None,
+        }
+    }
+
+    /// What a name holds, as [`Frames::get`] gives it. This takes no memory.
+    ///
+    /// # Errors
+    /// Refusals 231 to 234 and 238 (of reading).
+    pub fn get_near(&self, name: &VariableName) -> Result<&Value, FrameError>
+        ensures ok { IfOk result (λ value. read self.now.frames name.now ≡ Ok value.now) }
+        ensures err { IfErr result (λ e. Refuses e (read self.now.frames name.now)) }
+    {
+        match self.scalar_near(name) {
+            Some(value) => Ok(value),
+            None => self.get(name.text()),
+        }
+    }
+
+    /// The same value as that of [`Frames::scalar_near`], to write: once the borrow ends, the chain
+    /// is as after [`Frames::set`] of the value that was left. This takes no memory.
+    pub fn scalar_mut_near(&mut self, name: &VariableName) -> Option<&mut Value>
+        ensures* writes_back { sem 𝓛 (LendsNear self.entry name.now result) }
+        ensures scalar { IfSome result (λ v. read self.old.frames name.now ≡ Ok v.now) }
+    {
+        if !name.is_simple() {
+            return None;
+        }
+        let level = self.level();
+        let frame = &mut self.frames[level];
+        match frame.scalar_mut_near(name) {
+            Some(value) => Some(value),
+            None => None,
+        }
+    }
+
+    /// Sets a name, as [`Frames::set`] does.
+    ///
+    /// # Errors
+    /// Want of memory; refusals 232, 233 (of setting) and 238.
+    pub fn set_near(
+        &mut self,
+        alloc: Global,
+        name: &VariableName,
+        value: Value,
+    ) -> Result<(), FrameError>
+        ensures ok { OnOk result (after_set self.old name.now value ≡ Ok self.new) }
+        ensures err { IfErr result (λ e. Refuses e (after_set self.old name.now value)) }
+        ensures unchanged { OnErr result (self.new ≡ self.old) }
+    {
+        if let Some(held) = self.scalar_mut_near(name) {
+            *held = value;
+            return Ok(());
+        }
+        self.set(alloc, name.text(), value)
+    }
+}
