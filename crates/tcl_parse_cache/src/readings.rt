@@ -131,7 +131,7 @@ impl Readings {
         let text = value.text(alloc)?;
         let Found { script, at } = self.find(alloc, &text)?;
         if let Some(at) = at {
-            value.keep_reading(at);
+            value.set_place(at);
         }
         Ok(script)
     }
@@ -182,7 +182,7 @@ impl Readings {
         ensures { IfOk result (λ found. IfSome found
             (λ script. script.value ≡ read_script value.now)) }
     {
-        let Some(at) = value.reading_at() else {
+        let Some(at) = value.place() else {
             return Ok(None);
         };
         let Some((_, read)) = self.scripts.get_index(at) else {

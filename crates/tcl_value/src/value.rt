@@ -22,6 +22,7 @@ use crate::items::Items;
 use crate::list::List;
 use itoa::Buffer;
 use std::alloc::{AllocError, AllocFailed, Global};
+use std::cell::Cell;
 use std::marker::Model;
 use std::rc::Rc;
 use tcl_text::integer::{IntegerFault, Integers, int_len, push_int, read_int, write_int};
@@ -131,7 +132,7 @@ enum Form {
     Dict(Rc<Entries>),
 }
 
-/// What a value's text was last read as, or where its reading as a script is found.
+/// What a value's text was last read as, or a place where what it names may be found.
 #[derive(Drop)]
 enum Kept {
     Nothing,
@@ -139,7 +140,7 @@ enum Kept {
     Tcl9(i64),
     List(List),
     Dict(Dict),
-    Reading(usize),
+    Place(Cell<usize>),
 }
 
 /// A value of the language, which contracts see as its text: the list of its bytes in UTF-8, of
@@ -347,22 +348,32 @@ impl Value {
     /// # Errors
     /// [`IntegerFault`]: 111 where the text is no integer text, 112 where the number doesn't fit 64
     /// bits.
+    pub fn int(&self, style: Integers) -> Result<i64, IntegerFault>
+        ensures { result ≡ int_of style self.now }
+    {
+        match &self.form {
+            Form::Number(n) => number_of(*n, style),
+            Form::Text(text) => match self.kept.int(style) {
+                Some(n) => Ok(n),
+                None => read_int(text.as_str(), style),
+            },
+            Form::Empty | Form::List(_) | Form::Dict(_) => Err(IntegerFault::NotInteger),
+        }
+    }
+
+    /// The same, which is kept.
+    ///
+    /// # Errors
+    /// Those of [`Value::int`].
     pub fn as_int(&mut self, style: Integers) -> Result<i64, IntegerFault>
         ensures read { result ≡ int_of style self.old }
         ensures text { self.new ≡ self.old }
     {
-        match &self.form {
-            Form::Number(n) => number_of(*n, style),
-            Form::Text(text) => {
-                if let Some(n) = self.kept.int(style) {
-                    return Ok(n);
-                }
-                let n = read_int(text.as_str(), style)?;
-                self.kept = Kept::of_int(n, style);
-                Ok(n)
-            }
-            Form::Empty | Form::List(_) | Form::Dict(_) => Err(IntegerFault::NotInteger),
+        let n = self.int(style)?;
+        if let Form::Text(_) = &self.form {
+            self.kept = Kept::of_int(n, style);
         }
+        Ok(n)
     }
 }
 
@@ -508,20 +519,40 @@ impl Value {
         self.text(alloc)
     }
 
-    /// The place that was kept last, unless something else was since: where its reading as a script
-    /// may be found. It says nothing of the text.
-    pub fn reading_at(&self) -> Option<usize> {
+    /// The same value, which can keep a place from now on, if it keeps nothing else.
+    pub fn with_place(self) -> Value
+        ensures { result ≡ self }
+    {
+        let Value { form, kept } = self;
+        let kept = match kept {
+            Kept::Nothing => Kept::Place(Cell::new(0)),
+            other => other,
+        };
+        Value { form, kept }
+    }
+
+    /// The place that was kept last, if it can keep one: where its reading as a script or as an
+    /// expression, or the variable or the command that it names, may be found. It says nothing of
+    /// the text, and may be any: whoever takes it looks at what stands there.
+    pub fn place(&self) -> Option<usize> {
         match &self.kept {
-            Kept::Reading(at) => Some(*at),
+            Kept::Place(at) => Some(at.get()),
             _ => None,
         }
     }
 
-    /// Keeps the place where its reading as a script is found.
-    pub fn keep_reading(&mut self, at: usize)
+    /// Keeps a place, if it can keep one.
+    pub fn keep_place(&self, place: usize) {
+        if let Kept::Place(at) = &self.kept {
+            at.set(place);
+        }
+    }
+
+    /// Keeps a place, in the stead of what its text was last read as.
+    pub fn set_place(&mut self, place: usize)
         ensures { self.new ≡ self.old }
     {
-        self.kept = Kept::Reading(at);
+        self.kept = Kept::Place(Cell::new(place));
     }
 }
 
@@ -611,7 +642,7 @@ impl Clone for Kept {
             Kept::Tcl9(n) => Ok(Kept::Tcl9(*n)),
             Kept::List(list) => Ok(Kept::List(list.clone()?)),
             Kept::Dict(dict) => Ok(Kept::Dict(dict.clone()?)),
-            Kept::Reading(at) => Ok(Kept::Reading(*at)),
+            Kept::Place(at) => Ok(Kept::Place(Cell::new(at.get()))),
         }
     }
 }
