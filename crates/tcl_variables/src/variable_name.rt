@@ -74,8 +74,16 @@ impl VariableName {
         self.simple
     }
 
+    /// The same name, which may stand at this place.
+    pub fn with_hint(self, place: usize) -> VariableName
+        ensures { result ≡ self }
+    {
+        self.set_hint(place);
+        self
+    }
+
     /// The place at which it may stand.
-    pub(crate) fn hint(&self) -> usize {
+    pub fn hint(&self) -> usize {
         self.hint.get() as usize
     }
 
