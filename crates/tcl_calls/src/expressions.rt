@@ -19,7 +19,6 @@ use tcl_operators::apply::truth_of;
 use tcl_operators::fault::ApplyError;
 use tcl_run::failure::failure;
 use tcl_run::interruption::Interruption;
-use tcl_run::steps::known_short;
 use tcl_text::integer::Integers;
 use tcl_tree::tree::Tree;
 use tcl_value::value::Value;
@@ -40,11 +39,12 @@ pub fn read_expression(
     ensures refused { IfErr result
         (λ i. Interrupts i (IsFailure (message_of value.now) (expression_of style value.now))) }
 {
-    let value = known_short(value.clone()?);
-    let text = value.text(alloc)?;
-    match tree.expression(alloc, &text, style) {
+    match tree.expression_of(alloc, value, style) {
         Ok(kept) => Ok(kept),
-        Err(ExprError::Fault(fault)) => Err(failure(alloc, fault.message(alloc, text.as_str())?)),
+        Err(ExprError::Fault(fault)) => {
+            let text = value.text(alloc)?;
+            Err(failure(alloc, fault.message(alloc, text.as_str())?))
+        }
         Err(ExprError::Memory) => Err(Interruption::Memory),
     }
 }
