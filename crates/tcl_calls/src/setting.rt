@@ -8,7 +8,7 @@ ghost use Rattle.tcl_tree.specs.TreeOf.{Names};
 
 use std::alloc::Global;
 use tcl_run::interruption::Interruption;
-use tcl_run::steps::write_variable;
+use tcl_run::steps::write_by_word;
 use tcl_tree::tree::{Place, Tree};
 use tcl_value::value::Value;
 
@@ -28,6 +28,5 @@ pub fn set_named(
     ensures set { Steps tree.old place (sets name.now value) tree.new result }
     ensures level { IsLevel tree.old tree.new }
 {
-    let name = name.text(alloc)?;
-    write_variable(tree, alloc, place, &name, value)
+    write_by_word(tree, alloc, place, name, value)
 }
