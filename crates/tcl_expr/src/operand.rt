@@ -20,6 +20,7 @@ use tcl_parser::reader::read_parts;
 use tcl_parser::scan::{before, is_name_character, split_ascii};
 use tcl_parser::script::{Part, Word};
 use tcl_parser::skip::{Piece, next_part};
+use tcl_prepared::preparing::prepare_operand;
 use tcl_text::boolean::read_bool;
 use tcl_text::integer::{IntegerFault, Integers, read_int};
 use tcl_text::list::split_braced;
@@ -178,15 +179,17 @@ fn skip_substitution(text: &str) -> Result<&str, Fault>
     }
 }
 
-/// The token of parts.
-fn parts_token(parts: Vec<Part>) -> Token
-    ensures { result
-        ≡ Token.Operand (Leaf.Substituted (record { parts = parts.items; expand = false })) }
+/// The token of parts, from which on so many bytes are to be read.
+fn parts_token(alloc: Global, parts: Vec<Part>, len: usize) -> Result<Token, AllocError>
+    ensures { IfOk result (λ token. token
+        ≡ Token.Operand (Leaf.Substituted (record { parts = parts.items; expand = false }))) }
 {
-    Token::Operand(Leaf::Substituted(Word {
+    let word = Word {
         parts,
         expand: false,
-    }))
+    };
+    let operand = prepare_operand(alloc, &word, len)?;
+    Ok(Token::Operand(Leaf::Substituted(operand)))
 }
 
 /// The token of a variable or of a script in brackets, and what follows it.
@@ -200,7 +203,7 @@ pub(crate) fn substitution(alloc: Global, text: &str) -> Result<(Token, &str), E
         return Err(ExprError::Fault(ExprFault::Syntax));
     }
     let (parts, _) = read_parts(alloc, front, false)?;
-    Ok((parts_token(parts), rest))
+    Ok((parts_token(alloc, parts, text.len())?, rest))
 }
 
 /// The token of a text in quotes, from behind its first mark on, and what follows it.
@@ -208,7 +211,7 @@ pub(crate) fn quoted(alloc: Global, text: &str) -> Result<(Token, &str), ExprErr
     ensures { Yields (λ x. (x.0, x.1.now)) result (quoted text.now) }
 {
     let (parts, rest) = read_parts(alloc, text, true)?;
-    Ok((parts_token(parts), rest))
+    Ok((parts_token(alloc, parts, text.len())?, rest))
 }
 
 /// The token of a text in braces, from behind its open brace on, and what follows it.

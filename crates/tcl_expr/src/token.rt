@@ -1,6 +1,6 @@
 //! The tokens that expressions are made of.
 use crate::operator::{BinaryOperator, Function, UnaryOperator};
-use tcl_parser::script::Word;
+use tcl_prepared::operand::Operand;
 use tcl_value::value::Value;
 
 /// What an expression computes with: a literal, or what is substituted when it is evaluated.
@@ -9,7 +9,7 @@ pub enum Leaf {
     /// A number, a boolean word or a text in braces.
     Literal(Value),
     /// A text in quotes, a variable or a script in brackets: its parts make the value.
-    Substituted(Word),
+    Substituted(Operand),
 }
 
 /// A token of an expression.

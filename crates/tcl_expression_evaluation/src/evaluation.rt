@@ -15,7 +15,7 @@ use tcl_expr::token::Leaf;
 use tcl_expr::tree::{ExprTree, Node};
 use tcl_operators::apply::{apply_binary, apply_func, apply_unary, truth_of};
 use tcl_operators::fault::{ApplyError, Operator, OperatorFault};
-use tcl_parser::script::Word;
+use tcl_prepared::operand::Operand;
 use tcl_text::integer::Integers;
 use tcl_value::value::Value;
 
@@ -23,7 +23,7 @@ use tcl_value::value::Value;
 #[derive(Drop)]
 pub enum Progress<'t> {
     /// This part is to be substituted, and its value supplied.
-    Wants(&'t Word),
+    Wants(&'t Operand),
     /// Everything is computed, and this is the value.
     Done(Value),
 }
@@ -205,7 +205,7 @@ impl Evaluation {
         nodes: &'t [Node],
         node: &'t Node,
         style: Integers,
-    ) -> Result<Option<&'t Word>, ApplyError>
+    ) -> Result<Option<&'t Operand>, ApplyError>
         ensures later { self.old.next ≤ self.new.next }
         ensures acts { Acts
             (λ w. w.now) result (does style node.now self.old.values.items
@@ -218,7 +218,7 @@ impl Evaluation {
                 self.supply(value.clone()?)?;
                 Ok(None)
             }
-            Node::Operand(Leaf::Substituted(word)) => Ok(Some(word)),
+            Node::Operand(Leaf::Substituted(operand)) => Ok(Some(operand)),
             Node::Unary(operator) => {
                 self.unary(alloc, *operator, style)?;
                 Ok(None)
@@ -289,8 +289,8 @@ impl Evaluation {
     {
         'steps: while let Some(node) = nodes.get(self.next) {
             self.next += 1;
-            if let Some(word) = self.act(alloc, nodes, node, style)? {
-                return Ok(Progress::Wants(word));
+            if let Some(operand) = self.act(alloc, nodes, node, style)? {
+                return Ok(Progress::Wants(operand));
             }
         }
         Ok(Progress::Done(self.take()))

@@ -141,7 +141,7 @@ fn order_of(
 }
 
 /// Whether an order answers a question.
-fn holds(comparison: Comparison, order: Ordering) -> bool
+pub fn holds(comparison: Comparison, order: Ordering) -> bool
     ensures { result ≡ holds comparison order }
 {
     match comparison {
@@ -155,7 +155,10 @@ fn holds(comparison: Comparison, order: Ordering) -> bool
 }
 
 /// The number that an operator makes of two.
-fn compute(operator: Arithmetic, x: i64, y: i64) -> Result<i64, ArithmeticFault>
+///
+/// # Errors
+/// 212, 213, 215 and 216 of the numbers.
+pub fn compute(operator: Arithmetic, x: i64, y: i64) -> Result<i64, ArithmeticFault>
     ensures { result ≡ in_range (computed operator x y) }
 {
     match operator {

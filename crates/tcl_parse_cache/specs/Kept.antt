@@ -25,3 +25,8 @@ abbrev pub Gives : {A : Type 0} → Result (Rc ExprTree A) ExprError → Result 
 Gives (Ok kept) read = steps_of read ≡ Some kept.value.nodes.items
 Gives (Err error.Memory) read = Unit {0}
 Gives (Err (error.Fault f)) read = read ≡ Err f
+
+-- a refusal is the fault of a text that is no expression, or want of memory
+abbrev pub IsRefused : ExprError → Result Tree ExprFault → Type 0
+IsRefused error.Memory read = Unit {0}
+IsRefused (error.Fault f) read = read ≡ Err f

@@ -1,25 +1,26 @@
 //! What texts were last read as.
-ghost use Rattle.std.specs.Prelude.{◌≡◌, ◌≤◌, ◌+◌, length, Err, IfOk, IfSome};
+ghost use Rattle.std.specs.Prelude.{◌≡◌, ◌≤◌, ◌+◌, IfOk, IfErr, IfSome};
 ghost use Rattle.indexmap.specs.IndexMap.{IsEmpty};
 ghost use Rattle.tcl_expr.specs.Expressions.{expression_of};
 ghost use Rattle.tcl_parser.specs.Reading.{read_script};
-ghost use Rattle.tcl_value.specs.Limits.{IsWithin, IsPast};
-ghost use Rattle.tcl_parse_cache.specs.Kept.{IsTree, Gives};
+ghost use Rattle.tcl_value.specs.Limits.{IsWithin};
+ghost use Rattle.tcl_parse_cache.specs.Kept.{IsTree, IsRefused, Gives};
 
 use indexmap::IndexMap;
 use std::alloc::{AllocError, Global};
 use std::rc::Rc;
-use tcl_expr::fault::{ExprError, ExprFault};
+use tcl_expr::fault::ExprError;
 use tcl_expr::parser::parse_expr;
-use tcl_expr::tree::ExprTree;
+use tcl_expr::token::Leaf;
+use tcl_expr::tree::{ExprTree, Node};
 use tcl_prepared::prepared::Prepared;
 use tcl_prepared::preparing::{LONGEST, prepare};
 use tcl_text::integer::Integers;
-use tcl_text::limit::MOST_BYTES;
 use tcl_text::text::Text;
 use tcl_value::value::Value;
 
-/// The most bytes of memory that the scripts which are kept may take together.
+/// The most bytes of memory that the scripts which are kept may take together, and as many the
+/// expressions.
 const MOST_MEMORY: usize = 1 << 24;
 
 /// The most bytes of memory that one of them takes for each byte of its text: twice for the text
@@ -32,9 +33,6 @@ const FOR_A_PIECE: usize = 120;
 
 /// The most that its entry takes.
 const FOR_AN_ENTRY: usize = 256;
-
-/// The most bytes that the texts of the expressions which are kept may have together.
-const MOST_TEXT: usize = 1 << 20;
 
 /// A text, and the script that it is.
 #[derive(Drop)]
@@ -60,20 +58,27 @@ struct Found {
     at: Option<usize>,
 }
 
+/// The expression that a text is, and the place at which it is kept, if it is.
+#[derive(Drop)]
+struct FoundExpression {
+    tree: Rc<ExprTree>,
+    at: Option<usize>,
+}
+
 /// The scripts and expressions that texts were last read as.
 ///
 /// No reading depends on what is kept: it is that of its text, whether it is made anew or not.
 /// Where the scripts would take more than 16,777,216 bytes of memory, all of them are dropped, and
-/// where the texts of the expressions would come to more than 1,048,576 bytes, all of those. What
-/// texts of more than 65,536 bytes were read as isn't kept.
+/// where the expressions would, all of those. What texts of more than 65,536 bytes were read as
+/// isn't kept.
 pub struct Readings {
     scripts: IndexMap<Text, ReadScript>,
     memory: usize,
     expressions: IndexMap<Text, ReadExpression>,
-    texts: usize,
+    expression_memory: usize,
     alloc: Global,
     ghost most: { memory ≤ 16777216 },
-    ghost most_text: { texts ≤ 1048576 },
+    ghost most_of_expressions: { expression_memory ≤ 16777216 },
 }
 
 impl Drop for Readings {
@@ -82,17 +87,29 @@ impl Drop for Readings {
             scripts: _scripts,
             memory: _,
             expressions: _expressions,
-            texts: _,
+            expression_memory: _,
             alloc: _,
         } = self;
     }
 }
 
-/// The most bytes of memory that a script takes, with its text and its entry.
-fn memory_of(text: &Text, script: &Prepared) -> usize {
+/// The most bytes of memory that what a text was read as takes, with the text and its entry, where
+/// it has so many pieces.
+fn memory_of(text: &Text, pieces: usize) -> usize {
     let bytes = text.len().saturating_mul(FOR_A_BYTE);
-    let pieces = script.pieces().saturating_mul(FOR_A_PIECE);
-    bytes.saturating_add(pieces).saturating_add(FOR_AN_ENTRY)
+    let most = pieces.saturating_mul(FOR_A_PIECE);
+    bytes.saturating_add(most).saturating_add(FOR_AN_ENTRY)
+}
+
+/// How many pieces an expression has: its steps, and those of its operands.
+fn tree_pieces(tree: &ExprTree) -> usize {
+    let mut pieces = tree.nodes.len();
+    'nodes: for node in &tree.nodes {
+        if let Node::Operand(Leaf::Substituted(operand)) = node {
+            pieces = pieces.saturating_add(operand.pieces());
+        }
+    }
+    pieces
 }
 
 impl Readings {
@@ -101,13 +118,13 @@ impl Readings {
         ensures scripts { IsEmpty result.scripts }
         ensures memory { result.memory ≡ 0 }
         ensures expressions { IsEmpty result.expressions }
-        ensures texts { result.texts ≡ 0 }
+        ensures expression_memory { result.expression_memory ≡ 0 }
     {
         Readings {
             scripts: IndexMap::new(alloc),
             memory: 0,
             expressions: IndexMap::new(alloc),
-            texts: 0,
+            expression_memory: 0,
             alloc,
         }
     }
@@ -147,33 +164,73 @@ impl Readings {
         Ok(script)
     }
 
-    /// The expression that a text is, in a style of integers.
+    /// The expression that a value is, in a style of integers. The value keeps where it is found,
+    /// if it can keep a place.
     ///
     /// # Errors
-    /// Why the text is none, and 122 exactly where it is longer than a value may be; want of
-    /// memory.
-    pub fn expression(
+    /// Why its text is none; want of memory.
+    pub fn expression_of(
+        &mut self,
+        alloc: Global,
+        value: &Value,
+        style: Integers,
+    ) -> Result<Rc<ExprTree>, ExprError>
+        ensures { Gives result (expression_of style value.now) }
+    {
+        if let Some(tree) = self.expression_at_hand(value, style)? {
+            return Ok(tree);
+        }
+        let _within = value.text_len();
+        let text = value.text(alloc)?;
+        let FoundExpression { tree, at } = self.find_expression(alloc, &text, style)?;
+        if let Some(at) = at {
+            value.keep_place(at);
+        }
+        Ok(tree)
+    }
+
+    /// The expression that a value is, if it is found at the place that the value keeps. What
+    /// stands there may be that of another text, or in another style.
+    fn expression_at_hand(
+        &self,
+        value: &Value,
+        style: Integers,
+    ) -> Result<Option<Rc<ExprTree>>, AllocError>
+        ensures { IfOk result (λ found. IfSome found
+            (λ tree. IsTree style value.now tree.value)) }
+    {
+        let Some(at) = value.place() else {
+            return Ok(None);
+        };
+        let Some((_, read)) = self.expressions.get_index(at) else {
+            return Ok(None);
+        };
+        if read.style != style || !value.is_text(read.of.as_str().as_bytes()) {
+            return Ok(None);
+        }
+        Ok(Some(read.tree.clone()?))
+    }
+
+    /// The expression that a text is, found by the text or read.
+    fn find_expression(
         &mut self,
         alloc: Global,
         text: &Text,
         style: Integers,
-    ) -> Result<Rc<ExprTree>, ExprError>
-        ensures read { IsWithin text.now → Gives result (expression_of style text.now) }
-        ensures too_long { IsPast text.now → result ≡ Err (ExprError.Fault ExprFault.TooLong) }
+    ) -> Result<FoundExpression, ExprError>
+        requires { IsWithin text.now }
+        ensures ok { IfOk result (λ found. IsTree style text.now found.tree.value) }
+        ensures err { IfErr result (λ e. IsRefused e (expression_of style text.now)) }
     {
-        if text.len() > MOST_BYTES {
-            return Err(ExprError::Fault(ExprFault::TooLong));
-        }
-        if let Some(read) = self.expressions.get(text) {
+        if let Some((at, _, read)) = self.expressions.get_full(text) {
             if read.of == *text && read.style == style {
-                return Ok(read.tree.clone()?);
+                let tree = read.tree.clone()?;
+                return Ok(FoundExpression { tree, at: Some(at) });
             }
         }
         let tree = Rc::new(alloc, parse_expr(alloc, text.as_str(), style)?)?;
-        if text.len() <= LONGEST {
-            self.keep_expression(text, style, tree.clone()?)?;
-        }
-        Ok(tree)
+        let at = self.keep_expression(text, style, tree.clone()?)?;
+        Ok(FoundExpression { tree, at })
     }
 
     /// The script that a value is, if it is found at the place that the value keeps. What stands
@@ -220,7 +277,7 @@ impl Readings {
     ) -> Result<Option<usize>, AllocError>
         requires { script.value ≡ read_script text.now }
     {
-        let memory = memory_of(text, &script);
+        let memory = memory_of(text, script.pieces());
         if text.len() > LONGEST || memory > MOST_MEMORY {
             return Ok(None);
         }
@@ -244,24 +301,37 @@ impl Readings {
         }
     }
 
-    /// Keeps the expression that a text is, for which room is made in the same way.
+    /// Keeps the expression that a text is, unless it is too long or takes too much. Returns where.
     fn keep_expression(
         &mut self,
         text: &Text,
         style: Integers,
         tree: Rc<ExprTree>,
-    ) -> Result<(), AllocError>
-        requires tree { IsTree style text.now tree.value }
-        requires short { length text.now ≤ 65536 }
+    ) -> Result<Option<usize>, AllocError>
+        requires { IsTree style text.now tree.value }
     {
-        if text.len() > MOST_TEXT - self.texts {
-            self.expressions = IndexMap::new(self.alloc);
-            self.texts = 0;
+        let memory = memory_of(text, tree_pieces(&tree));
+        if text.len() > LONGEST || memory > MOST_MEMORY {
+            return Ok(None);
         }
+        self.make_room_for_expression(memory);
         let of = text.clone()?;
-        self.expressions
-            .insert(text.clone()?, ReadExpression { of, style, tree })?;
-        self.texts = self.texts + text.len();
-        Ok(())
+        let (at, _) = self
+            .expressions
+            .insert_full(text.clone()?, ReadExpression { of, style, tree })?;
+        self.expression_memory = self.expression_memory + memory;
+        Ok(Some(at))
+    }
+
+    /// Makes room for an expression that takes so much: drops all others where they leave too
+    /// little.
+    fn make_room_for_expression(&mut self, memory: usize)
+        requires { memory ≤ 16777216 }
+        ensures { self.new.expression_memory + memory ≤ 16777216 }
+    {
+        if memory > MOST_MEMORY - self.expression_memory {
+            self.expressions = IndexMap::new(self.alloc);
+            self.expression_memory = 0;
+        }
     }
 }

@@ -23,7 +23,7 @@ fn parts_pieces(parts: &[PreparedPart]) -> usize {
 }
 
 /// Those of a word: itself, and its parts'.
-fn word_pieces(word: &PreparedWord) -> usize {
+pub(crate) fn word_pieces(word: &PreparedWord) -> usize {
     match word {
         PreparedWord::Literal(_) => 1,
         PreparedWord::Lone(part) => part_pieces(part).saturating_add(1),

@@ -6,9 +6,7 @@ ghost use Rattle.tcl_prepared.specs.Views.{seen_command};
 ghost use Rattle.tcl_prepared.specs.Brackets.{IsBracket};
 
 use crate::pieces::commands_pieces;
-use std::alloc::AllocError;
 use std::marker::Model;
-use std::rc::Rc;
 use tcl_parser::fault::Fault;
 use tcl_text::text::Text;
 use tcl_value::value::Value;
@@ -233,67 +231,5 @@ impl Bracket {
         ensures { result.now ≡ read_script self.now }
     {
         &self.script
-    }
-}
-
-/// A text with the script that it is, which contracts see as the text. A clone shares the script.
-///
-/// A loop holds its body as one, so that each turn evaluates what was read once.
-pub struct PreparedText {
-    text: Text,
-    script: Rc<Prepared>,
-}
-
-impl Drop for PreparedText {
-    fn drop(self) {
-        let PreparedText {
-            text: _text,
-            script: _script,
-        } = self;
-    }
-}
-
-impl Model for PreparedText {
-    ghost use Rattle.std.specs.Prelude.{List, ℕ, ◌≡◌};
-    ghost use Rattle.tcl_parser.specs.Reading.{read_script};
-
-    ghost Value = { List ℕ };
-
-    ghost view = { λ a. a.text };
-
-    ghost invariant = { λ a. a.script.value ≡ read_script a.text };
-}
-
-impl PreparedText {
-    /// A text with what it was read as.
-    pub fn new(text: Text, script: Rc<Prepared>) -> PreparedText
-        requires { script.value ≡ read_script text }
-        ensures { result ≡ text }
-    {
-        PreparedText { text, script }
-    }
-
-    /// The text.
-    pub fn text(&self) -> &Text
-        ensures { result.now ≡ self.now }
-    {
-        &self.text
-    }
-
-    /// What the text was read as.
-    pub fn script(&self) -> &Prepared
-        ensures { result.now ≡ read_script self.now }
-    {
-        &self.script
-    }
-}
-
-impl Clone for PreparedText {
-    ghost is_clone = { λ x y. y ≡ x };
-
-    fn clone(&self) -> Result<PreparedText, AllocError> {
-        let text = self.text.clone()?;
-        let script = self.script.clone()?;
-        Ok(PreparedText { text, script })
     }
 }

@@ -9,11 +9,9 @@ ghost use Rattle.tcl_prepared.specs.Views.{literal_parts, literal_word};
 ghost use Rattle.tcl_prepared.specs.Brackets.{part_weight, parts_weight, words_weight};
 ghost use Rattle.tcl_prepared.specs.Brackets.{commands_weight};
 
-use crate::prepared::{
-    Bracket, Literals, Prepared, PreparedCommand, PreparedPart, PreparedText, PreparedWord,
-};
+use crate::operand::Operand;
+use crate::prepared::{Bracket, Literals, Prepared, PreparedCommand, PreparedPart, PreparedWord};
 use std::alloc::{AllocError, Global};
-use std::rc::Rc;
 use tcl_parser::reader::parse;
 use tcl_parser::script::{Command, Part, Script, Word};
 use tcl_text::text::Text;
@@ -82,7 +80,7 @@ fn text_value(text: &Text) -> Result<Option<Value>, AllocError>
         return Ok(None);
     }
     match Value::from_text(text.clone()?) {
-        Ok(value) => Ok(Some(value)),
+        Ok(value) => Ok(Some(value.with_place())),
         Err(_) => Ok(None),
     }
 }
@@ -133,19 +131,24 @@ pub fn prepare(alloc: Global, text: &str) -> Result<Prepared, AllocError>
     ensures { IfOk result (λ prepared. prepared ≡ read_script text.now) }
 {
     let script = parse(alloc, text)?;
-    let levels = if text.len() > LONGEST { 0 } else { MOST_LEVELS };
-    prepare_to(alloc, &script, levels)
+    prepare_to(alloc, &script, levels_for(text.len()))
 }
 
-/// The same, with the text beside it.
+/// How deep scripts in brackets are read with a text of so many bytes.
+fn levels_for(len: usize) -> u32 {
+    if len > LONGEST { 0 } else { MOST_LEVELS }
+}
+
+/// Prepares a word that is an operand of an expression, with the scripts in its brackets down to
+/// [`MOST_LEVELS`]. They stay texts where more than [`LONGEST`] bytes of the expression stand from
+/// the word on.
 ///
 /// # Errors
 /// Want of memory.
-pub fn prepare_text(alloc: Global, text: &Text) -> Result<PreparedText, AllocError>
-    ensures { IfOk result (λ prepared. prepared ≡ text.now) }
+pub fn prepare_operand(alloc: Global, word: &Word, len: usize) -> Result<Operand, AllocError>
+    ensures { IfOk result (λ operand. operand ≡ word.now) }
 {
-    let script = Rc::new(alloc, prepare(alloc, text.as_str())?)?;
-    Ok(PreparedText::new(text.clone()?, script))
+    Ok(Operand::new(prepare_word(alloc, word, levels_for(len))?))
 }
 
 /// Prepares a script that was read, with the scripts in its brackets down to so many levels. Where
@@ -223,11 +226,8 @@ fn prepare_compound(alloc: Global, word: &Word, levels: u32) -> Result<PreparedW
 }
 
 /// Prepares parts, with the scripts in brackets among them down to so many levels.
-///
-/// # Errors
-/// Want of memory.
 #[cycle(preparing)]
-pub fn prepare_parts(
+fn prepare_parts(
     alloc: Global,
     parts: &[Part],
     levels: u32,

@@ -83,7 +83,7 @@ pub fn known_short(value: Value) -> Value
 }
 
 /// The frames of the interpreter that the place names.
-fn frames_seen(tree: &Tree, place: Place) -> Option<&Frames>
+pub fn frames_seen(tree: &Tree, place: Place) -> Option<&Frames>
     ensures { (p : Path) → Names tree.now place p → option_copied result ≡ option_map
         (λ n. n.own.chain) (tree_of tree.now p) }
 {

@@ -1,14 +1,13 @@
 //! What the texts that are evaluated in a tree are read as.
-ghost use Rattle.std.specs.Prelude.{◌≡◌, Err, IfOk};
+ghost use Rattle.std.specs.Prelude.{◌≡◌, IfOk};
 ghost use Rattle.tcl_expr.specs.Expressions.{expression_of};
 ghost use Rattle.tcl_parser.specs.Reading.{read_script};
 ghost use Rattle.tcl_parse_cache.specs.Kept.{Gives};
-ghost use Rattle.tcl_value.specs.Limits.{IsWithin, IsPast};
 
 use crate::tree::Tree;
 use std::alloc::{AllocError, Global};
 use std::rc::Rc;
-use tcl_expr::fault::{ExprError, ExprFault};
+use tcl_expr::fault::ExprError;
 use tcl_expr::tree::ExprTree;
 use tcl_parse_cache::readings::Readings;
 use tcl_prepared::prepared::Prepared;
@@ -46,24 +45,22 @@ impl Tree {
         }
     }
 
-    /// The expression that a text is in a style of integers, read anew only where it wasn't read
-    /// before.
+    /// The expression that a value is in a style of integers, read anew only where it wasn't read
+    /// before. The value keeps where it is found, if it can keep a place.
     ///
     /// # Errors
-    /// Why the text is none, and 122 exactly where it is longer than a value may be; want of
-    /// memory.
-    pub fn expression(
+    /// Why its text is none; want of memory.
+    pub fn expression_of(
         &self,
         alloc: Global,
-        text: &Text,
+        value: &Value,
         style: Integers,
     ) -> Result<Rc<ExprTree>, ExprError>
-        ensures read { IsWithin text.now → Gives result (expression_of style text.now) }
-        ensures too_long { IsPast text.now → result ≡ Err (ExprError.Fault ExprFault.TooLong) }
+        ensures { Gives result (expression_of style value.now) }
     {
         match self.readings.try_borrow_mut() {
-            Ok(mut readings) => readings.expression(alloc, text, style),
-            Err(_) => Readings::new(alloc).expression(alloc, text, style),
+            Ok(mut readings) => readings.expression_of(alloc, value, style),
+            Err(_) => Readings::new(alloc).expression_of(alloc, value, style),
         }
     }
 }

@@ -1,6 +1,7 @@
 //! What expressions compute. Behind a bar stands what they asked for. The values of `$s`, `$i` and
 //! `$z` are 7, 3 and 0, and that of any other part is a text which is no number.
 use crate::text_rows::answers::text as show;
+use crate::text_rows::trees::parts_of;
 use std::alloc::{AllocError, Global};
 use tcl_expr::fault::ExprError;
 use tcl_expr::parser::parse_expr;
@@ -8,23 +9,30 @@ use tcl_expr::tree::ExprTree;
 use tcl_expression_evaluation::evaluation::{Evaluation, Progress};
 use tcl_expression_evaluation::result::final_value;
 use tcl_operators::fault::ApplyError;
-use tcl_parser::script::{Part, Word};
+use tcl_prepared::operand::Operand;
+use tcl_prepared::prepared::{PreparedPart, PreparedWord};
 use tcl_text::integer::Integers;
 use tcl_text::text::Text;
 use tcl_value::value::Value;
 
 /// What is asked for with a part: the name of a variable, or the text of a script.
-fn asked_of(part: &Part) -> &str {
+fn asked_of(part: &PreparedPart) -> &str {
     match part {
-        Part::Variable(text) | Part::Literal(text) | Part::Script(text) | Part::Element(text) =>
-            text.as_str(),
-        Part::EndElement => "",
+        PreparedPart::Variable(name) => name.as_str(),
+        PreparedPart::Literal(text) | PreparedPart::Deep(text) | PreparedPart::Element(text) => {
+            text.as_str()
+        }
+        PreparedPart::Bracket(script) => script.text().as_str(),
+        PreparedPart::EndElement => "",
     }
 }
 
-/// What is asked for with a word.
-fn push_asked(asked: &mut String, word: &Word) -> Result<(), AllocError> {
-    'parts: for part in &word.parts {
+/// What is asked for with an operand.
+fn push_asked(alloc: Global, asked: &mut String, operand: &Operand) -> Result<(), AllocError> {
+    if let PreparedWord::Literal(value) = operand.word() {
+        value.write_to(alloc, asked)?;
+    }
+    'parts: for part in parts_of(operand.word()) {
         asked.push_str(asked_of(part))?;
     }
     asked.push_str(";")
@@ -39,8 +47,8 @@ fn no_number(alloc: Global) -> Result<Value, AllocError> {
 }
 
 /// The value of what is asked for.
-fn value_of(alloc: Global, word: &Word) -> Result<Value, AllocError> {
-    let Some(Part::Variable(name)) = word.parts.get(0) else {
+fn value_of(alloc: Global, operand: &Operand) -> Result<Value, AllocError> {
+    let Some(name) = operand.variable() else {
         return Ok(Value::empty());
     };
     match name.as_str() {
@@ -55,11 +63,11 @@ fn value_of(alloc: Global, word: &Word) -> Result<Value, AllocError> {
 fn supply(
     alloc: Global,
     evaluation: &mut Evaluation,
-    word: &Word,
+    operand: &Operand,
     asked: &mut String,
 ) -> Result<(), AllocError> {
-    push_asked(asked, word)?;
-    evaluation.supply(value_of(alloc, word)?)
+    push_asked(alloc, asked, operand)?;
+    evaluation.supply(value_of(alloc, operand)?)
 }
 
 /// The text of a value, once it is settled.
@@ -79,8 +87,8 @@ fn go_on(
     asked: &mut String,
 ) -> Result<Option<String>, AllocError> {
     match evaluation.advance(alloc, tree, style) {
-        Ok(Progress::Wants(word)) => {
-            supply(alloc, evaluation, word, asked)?;
+        Ok(Progress::Wants(operand)) => {
+            supply(alloc, evaluation, operand, asked)?;
             Ok(None)
         }
         Ok(Progress::Done(value)) => Ok(Some(settled(alloc, value, style)?)),

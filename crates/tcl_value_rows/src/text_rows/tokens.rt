@@ -1,12 +1,13 @@
 //! The tokens that expressions begin with.
 use crate::text_rows::answers::{no_call, text as show};
+use crate::text_rows::trees::parts_of;
 use std::alloc::{AllocError, Global};
 use tcl_expr::fault::{ExprError, ExprFault};
 use tcl_expr::lexer::{Lexed, next_token};
 use tcl_expr::operator::{BinaryOperator, Function, UnaryOperator};
 use tcl_expr::token::{Leaf, Token};
 use tcl_parser::fault::Fault;
-use tcl_parser::script::Part;
+use tcl_prepared::prepared::{PreparedPart, PreparedWord};
 use tcl_text::integer::Integers;
 use tcl_text::limit::MOST_BYTES;
 use tcl_text::text::Text;
@@ -19,25 +20,35 @@ fn push_between(out: &mut String, open: &str, text: &Text, close: &str) -> Resul
 }
 
 /// A part of an operand.
-fn push_part(out: &mut String, part: &Part) -> Result<(), AllocError> {
+fn push_part(out: &mut String, part: &PreparedPart) -> Result<(), AllocError> {
     match part {
-        Part::Literal(text) => out.push_str(text.as_str()),
-        Part::Variable(name) => push_between(out, "$", name, ""),
-        Part::Element(name) => push_between(out, "$", name, "("),
-        Part::EndElement => out.push_str(")"),
-        Part::Script(text) => push_between(out, "[", text, "]"),
+        PreparedPart::Literal(text) => out.push_str(text.as_str()),
+        PreparedPart::Variable(name) => push_between(out, "$", name.text(), ""),
+        PreparedPart::Element(name) => push_between(out, "$", name, "("),
+        PreparedPart::EndElement => out.push_str(")"),
+        PreparedPart::Bracket(script) => push_between(out, "[", script.text(), "]"),
+        PreparedPart::Deep(text) => push_between(out, "[", text, "]"),
     }
+}
+
+/// A word, by its parts.
+fn push_word(alloc: Global, out: &mut String, word: &PreparedWord) -> Result<(), AllocError> {
+    if let PreparedWord::Literal(value) = word {
+        return value.write_to(alloc, out);
+    }
+    'parts: for part in parts_of(word) {
+        push_part(out, part)?;
+    }
+    Ok(())
 }
 
 /// An operand: a literal's text, or the parts of what is substituted in angle brackets.
 fn push_leaf(alloc: Global, out: &mut String, leaf: &Leaf) -> Result<(), AllocError> {
     match leaf {
         Leaf::Literal(value) => value.write_to(alloc, out),
-        Leaf::Substituted(word) => {
+        Leaf::Substituted(operand) => {
             out.push_str("<")?;
-            'parts: for part in &word.parts {
-                push_part(out, part)?;
-            }
+            push_word(alloc, out, operand.word())?;
             out.push_str(">")
         }
     }

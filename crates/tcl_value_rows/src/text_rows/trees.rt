@@ -1,20 +1,30 @@
 //! What is kept of expressions.
 use crate::text_rows::answers::text as show;
 use std::alloc::{AllocError, Global};
+use std::slice;
 use tcl_expr::fault::ExprError;
 use tcl_expr::operator::BinaryOperator;
 use tcl_expr::parser::parse_expr;
 use tcl_expr::token::Leaf;
 use tcl_expr::tree::{ExprTree, Node};
-use tcl_parser::script::Part;
+use tcl_prepared::prepared::{PreparedPart, PreparedWord};
 use tcl_text::integer::Integers;
+
+/// The parts of a word that is no literal.
+pub(crate) fn parts_of(word: &PreparedWord) -> &[PreparedPart] {
+    match word {
+        PreparedWord::Literal(_) => &[],
+        PreparedWord::Lone(part) => slice::from_ref(part),
+        PreparedWord::Parts(parts) | PreparedWord::Spread(parts) => parts.as_slice(),
+    }
+}
 
 /// An operand, in short.
 fn push_leaf(alloc: Global, out: &mut String, leaf: &Leaf) -> Result<(), AllocError> {
     match leaf {
         Leaf::Literal(value) => value.write_to(alloc, out),
-        Leaf::Substituted(word) => match word.parts.get(0) {
-            Some(Part::Variable(name)) => {
+        Leaf::Substituted(operand) => match parts_of(operand.word()).first() {
+            Some(PreparedPart::Variable(name)) => {
                 out.push_str("$")?;
                 out.push_str(name.as_str())
             }
