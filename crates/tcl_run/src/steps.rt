@@ -27,7 +27,6 @@ use tcl_flow::stop::{Stop, StopKind};
 use tcl_frames::frames::Frames;
 use tcl_text::limit::MOST_BYTES;
 use tcl_text::list::ListError;
-use tcl_text::text::Text;
 use tcl_tree::tree::{Place, Tree};
 use tcl_value::list::List;
 use tcl_value::value::Value;
@@ -93,27 +92,7 @@ pub fn frames_seen(tree: &Tree, place: Place) -> Option<&Frames>
     }
 }
 
-/// The value of the variable of this name.
-pub fn read_variable(
-    tree: &Tree,
-    alloc: Global,
-    place: Place,
-    name: &Text,
-) -> Result<Value, Interruption>
-    ensures read { (p : Path) (n : core.Node Own) → Names tree.now place p →
-        tree_of tree.now p ≡ Some n → Gave frame_message (read n.own.chain.frames name.now) result }
-    ensures short { IfOk result (λ value. fits value ≡ true) }
-{
-    let Some(frames) = frames_seen(tree, place) else {
-        return Err(Interruption::Memory);
-    };
-    match frames.get(name) {
-        Ok(value) => Ok(known_short(value.clone()?)),
-        Err(error) => Err(frame_failure(alloc, error)),
-    }
-}
-
-/// The same, in less time where the name stands where it was found last.
+/// The value of the variable of this name, in less time where it stands where it was found last.
 pub fn read_named(
     tree: &Tree,
     alloc: Global,
