@@ -65,7 +65,9 @@ pub fn number_at(tree: &Tree, place: Place, style: Integers, kept: &ExprTree) ->
         tree_of tree.now p ≡ Some m →
         IsNumberAtHand m.own.chain.frames style kept.now.nodes.items n) }
 {
-    let frames = frames_seen(tree, place)?;
+    let Some(frames) = frames_seen(tree, place) else {
+        return None;
+    };
     number_at_hand(frames, style, kept)
 }
 

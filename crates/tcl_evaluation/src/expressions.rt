@@ -153,7 +153,9 @@ pub fn if_first<O: Outside>(
         return Ok(Value::empty());
     };
     let mut body = last.clone()?;
-    eval_value(tree, alloc, outside, place, &mut body)
+    let ended = eval_value(tree, alloc, outside, place, &mut body);
+    keep_place_of(last, &body);
+    ended
 }
 
 /// A turn of a loop with a condition: whether the loop goes on. Where the condition holds, the turn
