@@ -48,9 +48,14 @@ const DICT_FOR: &str = "dict for {keyVar valueVar} dictionary body";
 
 /// The names of the variables that a loop sets, which contracts see as their texts. Each keeps
 /// where its variable was found last.
-#[derive(Drop)]
 pub struct VariableNames {
     names: Vec<VariableName>,
+}
+
+impl Drop for VariableNames {
+    fn drop(self) {
+        let VariableNames { names: _names } = self;
+    }
 }
 
 impl Model for VariableNames {
