@@ -28,7 +28,8 @@ returns-in_err-elements-clause-refused c =
 
 pub returns-clause-read : goal.returns-clause-read
 returns-clause-read c =
-    let names : list_of c.args.names.now ≡ Ok c.in_ok-names-2.names = ap list_of (sym c.in_ok-names.ensures.cases) ∙ c.in_ok-names-2.ensures.read in
+    let same = c.in_ok-names-3.ensures in
+    let names : list_of c.args.names.now ≡ Ok c.in_ok-names-3.names = ap list_of (sym c.in_ok-names.ensures.cases) ∙ c.in_ok-names-2.ensures.read ∙ ap Ok (sym same) in
     let test = c.if-len-ne2.false in
-    let two : length c.in_ok-names-2.names ≡ 2 = grind (arith, nat_tests) in
-    λ k. entries_read c.args.names.now c.args.dict.now c.in_ok-names-2.names c.in_ok-elements.elements k names two c.in_ok-elements.ensures
+    let held : length c.in_ok-names-2.names ≡ 2 = grind (arith, nat_tests) in
+    λ k. entries_read c.args.names.now c.args.dict.now c.in_ok-names-3.names c.in_ok-elements.elements k names (ap length same ∙ held) c.in_ok-elements.ensures
