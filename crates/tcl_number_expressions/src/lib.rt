@@ -1,0 +1,4 @@
+//! Expressions of numbers that are at hand, computed without a general evaluation.
+#![tactic(auto)]
+
+pub mod at_hand;
