@@ -2,3 +2,4 @@
 #![tactic(auto)]
 
 pub mod at_hand;
+pub mod laws;
