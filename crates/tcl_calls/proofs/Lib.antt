@@ -10,6 +10,7 @@ mod Handling
 mod Keeping
 mod Kept
 mod Levelling
+mod Naming
 mod Stops
 mod Turning
 mod Walking

@@ -1,11 +1,16 @@
 //! Expressions that commands read, and what their values come to.
-ghost use Rattle.std.specs.Prelude.{◌≡◌, ◌++◌, ◌∷◌, ◌-◌, [], IfOk, IfErr, length};
+ghost use Rattle.std.specs.Prelude.{◌≡◌, ◌++◌, ◌∷◌, ◌-◌, [], Some, IfOk, IfErr, IfSome, length};
+ghost use Rattle.tcl_core.specs.Paths.{Path};
+ghost use Rattle.tcl_core.specs.Trees as core;
 ghost use Rattle.tcl_expr.specs.Expressions.{expression_of};
 ghost use Rattle.tcl_expr.specs.Faults.{message_of};
 ghost use Rattle.tcl_expression_evaluation.specs.Steps.{from};
+ghost use Rattle.tcl_number_expressions.specs.AtHand.{IsNumberAtHand};
 ghost use Rattle.tcl_operators.specs.Apply.{truth};
 ghost use Rattle.tcl_operators.specs.Messages.{message_of as operator_message};
 ghost use Rattle.tcl_run.specs.Ends.{Gave, IfEnded, Interrupts, IsFailure};
+ghost use Rattle.tcl_tree.specs.Own.{Own};
+ghost use Rattle.tcl_tree.specs.TreeOf.{tree_of, Names};
 ghost use Rattle.tcl_calls.specs.Expressions.{GivesPart, IsKept, IsNearer, OperatorTells, settles};
 ghost use Rattle.tcl_calls.specs.Words.{EndsBy};
 
@@ -17,10 +22,12 @@ use tcl_expression_evaluation::evaluation::{Evaluation, Progress};
 use tcl_expression_evaluation::result::final_value;
 use tcl_operators::apply::truth_of;
 use tcl_operators::fault::ApplyError;
+use tcl_number_expressions::at_hand::number_at_hand;
 use tcl_run::failure::failure;
 use tcl_run::interruption::Interruption;
+use tcl_run::steps::frames_seen;
 use tcl_text::integer::Integers;
-use tcl_tree::tree::Tree;
+use tcl_tree::tree::{Place, Tree};
 use tcl_value::value::Value;
 
 /// Reads a value as an expression, in a style of integers: anew only where its text wasn't read
@@ -47,6 +54,21 @@ pub fn read_expression(
         }
         Err(ExprError::Memory) => Err(Interruption::Memory),
     }
+}
+
+/// The value of an expression that was read, where each of its operands is a literal or a variable
+/// of the current frame, and all of them are integers, and it is one that fits 64 bits. This takes
+/// no memory.
+#[inline(never)]
+pub fn number_at(tree: &Tree, place: Place, style: Integers, kept: &ExprTree) -> Option<i64>
+    ensures { IfSome result (λ n. (p : Path) (m : core.Node Own) → Names tree.now place p →
+        tree_of tree.now p ≡ Some m →
+        IsNumberAtHand m.own.chain.frames style kept.now.nodes.items n) }
+{
+    let Some(frames) = frames_seen(tree, place) else {
+        return None;
+    };
+    number_at_hand(frames, style, kept)
 }
 
 /// The error that a refusal of an operator is.

@@ -8,9 +8,10 @@ ghost use Rattle.tcl_tree.specs.TreeOf.{Names};
 
 use std::alloc::Global;
 use tcl_run::interruption::Interruption;
-use tcl_run::steps::write_variable;
+use tcl_run::steps::{write_by_word, write_named};
 use tcl_tree::tree::{Place, Tree};
 use tcl_value::value::Value;
+use tcl_variables::variable_name::VariableName;
 
 /// Sets the variable that a word names.
 ///
@@ -28,6 +29,24 @@ pub fn set_named(
     ensures set { Steps tree.old place (sets name.now value) tree.new result }
     ensures level { IsLevel tree.old tree.new }
 {
-    let name = name.text(alloc)?;
-    write_variable(tree, alloc, place, &name, value)
+    write_by_word(tree, alloc, place, name, value)
+}
+
+/// Sets the variable of a name, in less time where it stands where it was found last.
+///
+/// # Errors
+/// Why it can't be set; want of memory.
+#[inline(never)]
+pub fn set_variable(
+    tree: &mut Tree,
+    alloc: Global,
+    place: Place,
+    name: &VariableName,
+    value: Value,
+) -> Result<(), Interruption>
+    requires { (p : Path) × Names tree.old place p }
+    ensures set { Steps tree.old place (sets name.now value) tree.new result }
+    ensures level { IsLevel tree.old tree.new }
+{
+    write_named(tree, alloc, place, name, value)
 }

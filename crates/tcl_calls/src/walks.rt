@@ -3,6 +3,7 @@ ghost use Rattle.std.specs.Prelude.{
   ◌≡◌,
   ◌+◌,
   ◌*◌,
+  ◌<◌,
   [],
   ◌∷◌,
   false,
@@ -26,15 +27,17 @@ ghost use Rattle.tcl_calls.specs.Walks.{walks_at, IsLoop, IsNoLoop, MisreadsWalk
 ghost use Rattle.tcl_calls.specs.Walks.{ReadsWalk, ReadsWalks, ReadsEntry, MisreadsEntry};
 ghost use Rattle.tcl_calls.specs.Walks.{ReadsDictLoop, MisreadsDictLoop};
 
-use crate::setting::set_named;
+use crate::setting::set_variable;
 use std::alloc::{AllocError, Global};
+use std::marker::Model;
 use tcl_dicts::reading::dict_word;
 use tcl_run::failure::{refused, wrong_args};
 use tcl_run::interruption::Interruption;
-use tcl_run::steps::read_list;
+use tcl_run::steps::{read_list, variable_name};
 use tcl_tree::tree::{Place, Tree};
 use tcl_value::list::List;
 use tcl_value::value::Value;
+use tcl_variables::variable_name::VariableName;
 
 /// The form of `foreach`.
 pub const FOREACH: &str = "foreach varList list ?varList list ...? command";
@@ -43,10 +46,60 @@ pub const LMAP: &str = "lmap varList list ?varList list ...? command";
 /// The form of `dict for`.
 const DICT_FOR: &str = "dict for {keyVar valueVar} dictionary body";
 
+/// The names of the variables that a loop sets, which contracts see as their texts. Each keeps
+/// where its variable was found last.
+pub struct VariableNames {
+    names: Vec<VariableName>,
+}
+
+impl Drop for VariableNames {
+    fn drop(self) {
+        let VariableNames { names: _names } = self;
+    }
+}
+
+impl Model for VariableNames {
+    ghost use Rattle.std.specs.Prelude.{List, ℕ};
+
+    ghost Value = { List (List ℕ) };
+
+    ghost view = { λ a. a.names.items };
+}
+
+impl VariableNames {
+    /// The names that the elements of a list are.
+    fn new(alloc: Global, list: &List) -> Result<VariableNames, AllocError>
+        ensures { IfOk result (λ made. made ≡ list.now) }
+    {
+        let count = list.len();
+        let mut names = Vec::with_capacity(alloc, count)?;
+        'names: for index in 0..count {
+            let word = list.get(index)?;
+            names.push(variable_name(alloc, &word)?)?;
+        }
+        Ok(VariableNames { names })
+    }
+
+    /// How many there are.
+    fn len(&self) -> usize
+        ensures { result ≡ length self.now }
+    {
+        self.names.len()
+    }
+
+    /// The name at an index.
+    fn get(&self, index: usize) -> &VariableName
+        requires { index < length self.now }
+        ensures { result.now ≡ get_or self.now index result.now }
+    {
+        &self.names[index]
+    }
+}
+
 /// The variables that a loop sets at each turn, and the list whose elements it sets them to.
 #[derive(Drop)]
 pub struct Walk {
-    pub names: List,
+    pub names: VariableNames,
     pub elements: List,
 }
 
@@ -95,6 +148,7 @@ fn read_walk(
     if names.is_empty() {
         return Err(wrong_args(alloc, form));
     }
+    let names = VariableNames::new(alloc, &names)?;
     Ok(Walk { names, elements })
 }
 
@@ -128,6 +182,7 @@ fn read_entries(alloc: Global, names: &Value, dict: &Value) -> Result<Walk, Inte
         return Err(wrong_args(alloc, DICT_FOR));
     }
     let elements = read_dict(alloc, dict)?;
+    let names = VariableNames::new(alloc, &names)?;
     Ok(Walk { names, elements })
 }
 
@@ -205,9 +260,9 @@ fn set_walk(
 {
     let count = walk.names.len();
     'names: for index in 0..count {
-        let name = walk.names.get(index)?;
+        let name = walk.names.get(index);
         let value = element_at(&walk.elements, turns, count, index)?;
-        set_named(tree, alloc, place, &name, value)?;
+        set_variable(tree, alloc, place, name, value)?;
     }
     Ok(())
 }

@@ -21,12 +21,13 @@ use tcl_flow::completion;
 use tcl_parser::fault::Fault;
 use tcl_run::failure::{failure, too_long};
 use tcl_run::interruption::Interruption;
-use tcl_run::steps::{read_list, read_variable};
+use tcl_run::steps::{read_list, read_named};
 use tcl_text::limit::MOST_BYTES;
 use tcl_text::text::Text;
 use tcl_tree::tree::{Place, Tree};
 use tcl_value::list::List;
 use tcl_value::value::Value;
+use tcl_variables::variable_name::VariableName;
 
 /// An element whose key is being substituted: its name, and the word's text before it.
 #[derive(Drop)]
@@ -193,7 +194,8 @@ pub fn close_element(
     };
     let OpenElement { name, before } = element;
     let written = element_text(alloc, name.as_str(), text.as_str())?;
-    let value = read_variable(tree, alloc, place, &written)?;
+    let variable = VariableName::new(written);
+    let value = read_named(tree, alloc, place, &variable)?;
     let mut whole = before;
     append_value(alloc, &mut whole, &value)?;
     *text = whole;

@@ -73,6 +73,14 @@ alters_lent makes chain next name old new change (Ok text) there set grows = cha
 alters_lent makes chain next name old new change (Err i) there set grows = Interrupts-more i _ _ (λ r g.
     (g.0, set_same chain next name old there (ap (after_set chain name) (sym g.1) ∙ set), changed_not makes chain name old g.0 change there g.2, g.3)) grows
 
+-- ## What is the same
+
+pub alters_there : (a b : Bool) (chain there next : Chain) (name given : Text) (change : Text → Growth) (result : Result Text Interruption) → a ≡ b → chain ≡ there → name ≡ given → Alters a chain name change next result →
+    Alters b there given change next result
+alters_there a b chain there next name given change result e f g alters =
+    subst (λ (m : Bool). Alters m there given change next result) e
+    (subst (λ (c : Chain). Alters a c given change next result) f (subst (λ (x : Text). Alters a chain x change next result) g alters))
+
 -- ## The commands
 
 looked_at : (T V : Tree Own) (p : Path) (n : Node Own) (r : Reply) (k : Node Own → Program) → T p ≡ Some n → Does (look k) T p V r → Does (k n) T p V r

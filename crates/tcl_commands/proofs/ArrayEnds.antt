@@ -71,17 +71,15 @@ changed_ends t u place given text e leads =
     (led t u place (λ style. look (λ n. chain_becomes n.own (given n.own.chain) (done (ok [])))) (ok []) (leads (λ style. done (ok []))))
 
 -- a variable is set, and that is told
-pub set_told : (t u : Table) (place : TablePlace) (name variable value text given : Text) → name ≡ variable → text ≡ given →
-    ((rest : Styled) → Leads t place (λ style. sets name value (rest style)) u rest) → EndsAt t place (λ style. sets variable value (done (ok given))) (tree_of u) (Completed (ok text))
-set_told t u place name variable value text given same e leads =
-    subst (λ (x : Text). EndsAt t place (λ style. sets variable value (done (ok given))) (tree_of u) (Completed (ok x))) (sym e)
-    (subst (λ (v : Text). EndsAt t place (λ style. sets v value (done (ok given))) (tree_of u) (Completed (ok given))) same
-    (led t u place (λ style. sets name value (done (ok given))) (ok given) (leads (λ style. done (ok given)))))
+pub set_told : (t u : Table) (place : TablePlace) (name value text given : Text) → text ≡ given →
+    ((rest : Styled) → Leads t place (λ style. sets name value (rest style)) u rest) → EndsAt t place (λ style. sets name value (done (ok given))) (tree_of u) (Completed (ok text))
+set_told t u place name value text given e leads =
+    subst (λ (x : Text). EndsAt t place (λ style. sets name value (done (ok given))) (tree_of u) (Completed (ok x))) (sym e)
+    (led t u place (λ style. sets name value (done (ok given))) (ok given) (leads (λ style. done (ok given))))
 
-pub set_refused : (t u : Table) (place : TablePlace) (name variable value given : Text) (i y : Interruption) (result : Result Text Interruption) → name ≡ variable → result ≡ Err y → y ≡ i →
-    ((rest : Styled) → Interrupts i (EndsAt t place (λ style. sets name value (rest style)) (tree_of u))) → Acts t place (λ style. sets variable value (done (ok given))) u result
-set_refused t u place name variable value given i y result same e is ends =
-    subst (λ (v : Text). Acts t place (λ style. sets v value (done (ok given))) u result) same (passed_acts t u place (λ style. sets name value (done (ok given))) i y result e is (ends (λ style. done (ok given))))
+pub set_refused : (t u : Table) (place : TablePlace) (name value given : Text) (i y : Interruption) (result : Result Text Interruption) → result ≡ Err y → y ≡ i →
+    ((rest : Styled) → Interrupts i (EndsAt t place (λ style. sets name value (rest style)) (tree_of u))) → Acts t place (λ style. sets name value (done (ok given))) u result
+set_refused t u place name value given i y result e is ends = passed_acts t u place (λ style. sets name value (done (ok given))) i y result e is (ends (λ style. done (ok given)))
 
 module _ (t : Table) (place : TablePlace) where
   -- ## What is read of the variables

@@ -6,7 +6,7 @@ ghost use Rattle.tcl_run.specs.Plain.{Acts};
 ghost use Rattle.tcl_run.specs.Runs.{IsLevel};
 ghost use Rattle.tcl_tree.specs.TreeOf.{Names};
 
-use crate::answers::{answered, texts_of};
+use crate::answers::answered;
 use crate::walks::set_names;
 use std::alloc::Global;
 use tcl_lists::commands::lassign_rest;
@@ -37,8 +37,7 @@ pub fn lassign(
         [list, names @ ..] => {
             let mut own = list.clone()?;
             let elements = read_list(alloc, &mut own)?;
-            let names = texts_of(alloc, names)?;
-            set_names(tree, alloc, place, names.as_slice(), &elements, 0)?;
+            set_names(tree, alloc, place, names, &elements, 0)?;
             answered(alloc, lassign_rest(alloc, names.len(), &elements))
         }
     }

@@ -19,11 +19,12 @@ use tcl_frames::frames::Frames;
 use tcl_lists::changing as lists;
 use tcl_run::failure::{failure, refused};
 use tcl_run::interruption::Interruption;
-use tcl_run::steps::frame_failure;
+use tcl_run::steps::{frame_failure, keep_hint, variable_name};
 use tcl_text::integer::Integers;
 use tcl_text::text::Text;
 use tcl_tree::tree::{Place, Tree};
 use tcl_value::value::Value;
+use tcl_variables::variable_name::VariableName;
 use tcl_words::refusal::Refusal;
 
 /// A change of what a variable holds, with the words that it takes.
@@ -125,16 +126,19 @@ fn change_held(
 fn change_in(
     frames: &mut Frames,
     alloc: Global,
-    name: &Text,
+    name: &VariableName,
     makes: bool,
     change: Change<'_>,
 ) -> Result<Value, Interruption>
     ensures { Alters makes frames.old name.now (altered change.entry) frames.new result }
 {
+    if let Some(value) = frames.scalar_mut_near(name) {
+        return change_value(alloc, value, change);
+    }
     if makes {
-        change_or_make(frames, alloc, name, change)
+        change_or_make(frames, alloc, name.text(), change)
     } else {
-        change_held(frames, alloc, name, change)
+        change_held(frames, alloc, name.text(), change)
     }
 }
 
@@ -143,7 +147,7 @@ fn change_variable(
     tree: &mut Tree,
     alloc: Global,
     place: Place,
-    name: &Text,
+    name: &VariableName,
     makes: bool,
     change: Change<'_>,
 ) -> Result<Value, Interruption>
@@ -164,18 +168,20 @@ fn change_named(
     tree: &mut Tree,
     alloc: Global,
     place: Place,
-    name: &Value,
+    word: &Value,
     makes: bool,
     change: Change<'_>,
 ) -> Result<Value, Interruption>
     requires { (p : Path) × Names tree.old place p }
     ensures acts { Acts tree.old place
         (λ style. look (λ n. finishes n.own
-        (changed makes n.own.chain name.now (altered change.entry)))) tree.new result }
+        (changed makes n.own.chain word.now (altered change.entry)))) tree.new result }
     ensures level { IsLevel tree.old tree.new }
 {
-    let name = name.text(alloc)?;
-    change_variable(tree, alloc, place, &name, makes, change)
+    let name = variable_name(alloc, word)?;
+    let changed = change_variable(tree, alloc, place, &name, makes, change);
+    keep_hint(word, &name);
+    changed
 }
 
 /// `lset varName ?index ...? newValue`: another element stands where the indexes lead in the list

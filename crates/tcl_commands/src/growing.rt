@@ -21,13 +21,14 @@ use tcl_frames::frames::Frames;
 use tcl_lists::refusing::not_changed;
 use tcl_run::failure::{failure, too_long, wrong_args};
 use tcl_run::interruption::Interruption;
-use tcl_run::steps::{frame_failure, read_variable};
+use tcl_run::steps::{frame_failure, keep_hint, read_by_word, variable_name};
 use tcl_text::integer::Integers;
 use tcl_text::limit::MOST_BYTES;
 use tcl_text::text::Text;
 use tcl_tree::tree::{Place, Tree};
 use tcl_value::value::Value;
 use tcl_variables::fault::FrameError;
+use tcl_variables::variable_name::VariableName;
 use tcl_words::refusal::Refusal;
 
 /// Whether a value is no longer than a value may be when these are added to it.
@@ -174,12 +175,29 @@ fn grow(
     }
 }
 
+/// The same, in less time where the name stands where it was found last.
+fn grow_near(
+    frames: &mut Frames,
+    alloc: Global,
+    name: &VariableName,
+    growth: Growth,
+    more: &[Value],
+) -> Result<Value, Interruption>
+    ensures { Grows (first_of growth) frames.old name.now (grown_by growth more.now) frames.new
+        result }
+{
+    if let Some(value) = frames.scalar_mut_near(name) {
+        return grow_value(alloc, value, growth, more);
+    }
+    grow(frames, alloc, name.text(), growth, more)
+}
+
 /// Makes a variable of the interpreter that the place names grow.
-pub(crate) fn grow_variable(
+fn grow_variable(
     tree: &mut Tree,
     alloc: Global,
     place: Place,
-    name: &Text,
+    name: &VariableName,
     growth: Growth,
     more: &[Value],
 ) -> Result<Value, Interruption>
@@ -191,9 +209,31 @@ pub(crate) fn grow_variable(
     ensures level { IsLevel tree.old tree.new }
 {
     match tree.frames_of(place) {
-        Some(frames) => grow(frames, alloc, name, growth, more),
+        Some(frames) => grow_near(frames, alloc, name, growth, more),
         None => unreachable!(),
     }
+}
+
+/// Makes the variable that a word names grow.
+pub(crate) fn grow_named(
+    tree: &mut Tree,
+    alloc: Global,
+    place: Place,
+    word: &Value,
+    growth: Growth,
+    more: &[Value],
+) -> Result<Value, Interruption>
+    requires { (p : Path) × Names tree.old place p }
+    ensures acts { Acts tree.old place
+        (λ style. look (λ n. finishes n.own
+        (grown (first_of growth) n.own.chain word.now (grown_by growth more.now)))) tree.new
+        result }
+    ensures level { IsLevel tree.old tree.new }
+{
+    let name = variable_name(alloc, word)?;
+    let grown = grow_variable(tree, alloc, place, &name, growth, more);
+    keep_hint(word, &name);
+    grown
 }
 
 /// `append varName ?value ...?`: adds values to the text of a variable, which is empty where there
@@ -213,14 +253,8 @@ pub fn append(
 {
     match args {
         [] => Err(wrong_args(alloc, "append varName ?value ...?")),
-        [name] => {
-            let name = name.text(alloc)?;
-            read_variable(tree, alloc, place, &name)
-        }
-        [name, values @ ..] => {
-            let name = name.text(alloc)?;
-            grow_variable(tree, alloc, place, &name, Growth::Texts, values)
-        }
+        [name] => read_by_word(tree, alloc, place, name),
+        [name, values @ ..] => grow_named(tree, alloc, place, name, Growth::Texts, values),
     }
 }
 
@@ -241,9 +275,6 @@ pub fn lappend(
 {
     match args {
         [] => Err(wrong_args(alloc, "lappend varName ?value ...?")),
-        [name, values @ ..] => {
-            let name = name.text(alloc)?;
-            grow_variable(tree, alloc, place, &name, Growth::Elements, values)
-        }
+        [name, values @ ..] => grow_named(tree, alloc, place, name, Growth::Elements, values),
     }
 }

@@ -140,8 +140,7 @@ fn set_default(
         (done (ok (either is_there (codes "1") (codes "0"))))) tree.new result }
     ensures level { IsLevel tree.old tree.new }
 {
-    let name = variable.text(alloc)?;
-    set_variable(tree, alloc, place, &name, value)?;
+    set_variable(tree, alloc, place, variable, value)?;
     Ok(truth_value(is_there))
 }
 

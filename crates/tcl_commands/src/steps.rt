@@ -19,7 +19,7 @@ use std::alloc::{AllocError, Global};
 use tcl_frames::frames::Frames;
 use tcl_run::failure::failure;
 use tcl_run::interruption::Interruption;
-use tcl_run::steps::{frame_failure, write_variable};
+use tcl_run::steps::{frame_failure, write_by_word};
 use tcl_text::integer::{IntegerFault, Integers, not_integer_message, too_large_message};
 use tcl_text::text::Text;
 use tcl_tree::tree::{Place, Tree};
@@ -38,12 +38,12 @@ pub(crate) fn frames_seen(tree: &Tree, place: Place) -> &Frames
     }
 }
 
-/// Sets a variable.
+/// Sets the variable that a word names.
 pub(crate) fn set_variable(
     tree: &mut Tree,
     alloc: Global,
     place: Place,
-    name: &Text,
+    name: &Value,
     value: Value,
 ) -> Result<(), Interruption>
     requires { (p : Path) × Names tree.old place p }
@@ -51,7 +51,7 @@ pub(crate) fn set_variable(
         (λ rest style. sets name.now value (rest style)) tree.new result }
     ensures level { IsLevel tree.old tree.new }
 {
-    write_variable(tree, alloc, place, name, value)
+    write_by_word(tree, alloc, place, name, value)
 }
 
 /// Makes a local name of the current level a link to what another name is at a level.

@@ -5,12 +5,12 @@ ghost use Rattle.tcl_run.specs.Plain.{Acts};
 ghost use Rattle.tcl_run.specs.Runs.{IsLevel};
 ghost use Rattle.tcl_tree.specs.TreeOf.{Names};
 
-use crate::growing::{Growth, grow_variable};
+use crate::growing::{Growth, grow_named};
 use crate::steps::set_variable;
 use std::alloc::Global;
 use tcl_run::failure::wrong_args;
 use tcl_run::interruption::Interruption;
-use tcl_run::steps::read_variable;
+use tcl_run::steps::read_by_word;
 use tcl_tree::tree::{Place, Tree};
 use tcl_value::value::Value;
 
@@ -30,13 +30,9 @@ pub fn set(
     ensures level { IsLevel tree.old tree.new }
 {
     match args {
-        [name] => {
-            let name = name.text(alloc)?;
-            read_variable(tree, alloc, place, &name)
-        }
+        [name] => read_by_word(tree, alloc, place, name),
         [name, value] => {
-            let name = name.text(alloc)?;
-            set_variable(tree, alloc, place, &name, value.clone()?)?;
+            set_variable(tree, alloc, place, name, value.clone()?)?;
             Ok(value.clone()?)
         }
         _ => Err(wrong_args(alloc, "set varName ?newValue?")),
@@ -61,9 +57,8 @@ pub fn incr(
 {
     match args {
         [name, words @ ..] if words.len() < 2 => {
-            let name = name.text(alloc)?;
             let growth = Growth::Sum(tree.integers());
-            grow_variable(tree, alloc, place, &name, growth, words)
+            grow_named(tree, alloc, place, name, growth, words)
         }
         _ => Err(wrong_args(alloc, "incr varName ?increment?")),
     }

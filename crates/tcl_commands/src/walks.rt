@@ -11,8 +11,7 @@ ghost use Rattle.tcl_commands.specs.Reaching.{GetsTo, GetsToEnd};
 
 use std::alloc::{AllocError, Global};
 use tcl_run::interruption::Interruption;
-use tcl_run::steps::write_variable;
-use tcl_text::text::Text;
+use tcl_run::steps::write_by_word;
 use tcl_tree::tree::{Place, Tree};
 use tcl_value::list::List as Elements;
 use tcl_value::value::Value;
@@ -34,8 +33,8 @@ fn place_after(elements: &Elements, at: usize) -> usize
     if at < elements.len() { at + 1 } else { at }
 }
 
-/// Sets variables to the elements of a list from a place on, and to empty values where none is
-/// left. Gives the place of what is left.
+/// Sets the variables that words name to the elements of a list from a place on, and to empty
+/// values where none is left. Gives the place of what is left.
 ///
 /// # Errors
 /// 232, 233 and 238 of the first that is refused; want of memory.
@@ -43,7 +42,7 @@ pub(crate) fn set_names(
     tree: &mut Tree,
     alloc: Global,
     place: Place,
-    names: &[Text],
+    names: &[Value],
     elements: &Elements,
     from: usize,
 ) -> Result<usize, Interruption>
@@ -63,7 +62,7 @@ pub(crate) fn set_names(
     let mut at = from;
     'names: for name in names {
         let value = element_at(elements, at)?;
-        write_variable(tree, alloc, place, name, value)?;
+        write_by_word(tree, alloc, place, name, value)?;
         at = place_after(elements, at);
     }
     Ok(at)

@@ -1,16 +1,17 @@
 -- What expressions, conditions and the commands with conditions come to.
-use Rattle.std.proofs.Common.{◌≡◌, ℕ, pos, ◌<◌, ◌≤◌, Bool, true, false, List, [], ◌∷◌, ◌++◌, length, Option, Some, None, refl, sym, ap, subst, arith}
+use Rattle.std.proofs.Common.{◌≡◌, ℕ, ℤ, pos, ◌<◌, ◌≤◌, Bool, true, false, List, [], ◌∷◌, ◌++◌, length, Option, Some, None, refl, sym, ap, subst, arith}
 use Rattle.std.specs.Prelude.{Result, Ok, Err, MatchResult, codes}
+use Rattle.std.specs.Fmt.{signed_decimal}
 use Rattle.tcl_core.specs.Endings.{Completion, Reply, IsQuit, ok}
 use Rattle.tcl_core.specs.Endings.Reply.{Completed, Stop, Exit, Cut}
 use Rattle.tcl_core.specs.Runs.{Ending}
 use Rattle.tcl_core.specs.Paths.{Text, Path}
 use Rattle.tcl_core.specs.Programs.Prog.{done, exit, act, go, inside, call, wait}
 use Rattle.tcl_run.proofs.Proceeding.{completed, passed}
-use Rattle.tcl_core.specs.Trees.{Tree}
+use Rattle.tcl_core.specs.Trees.{Tree, Node as TreeNode}
 use Rattle.tcl_expr.specs.Expressions.{expression_of}
 use Rattle.tcl_expr.specs.Faults.{message_of as expression_message}
-use Rattle.tcl_expression_evaluation.specs.Computations.{Computation, value, substitute, computation_of}
+use Rattle.tcl_expression_evaluation.specs.Computations.{Computation, value, refused, substitute, computation_of, settled}
 use Rattle.tcl_expression_evaluation.specs.Steps.{from}
 use Rattle.tcl_expr.specs.declared.tree.ExprTree.{ExprTree}
 use Rattle.tcl_expr.specs.declared.tree.Node.{Node}
@@ -25,7 +26,9 @@ use Rattle.tcl_language.specs.Words.{concat}
 use Rattle.tcl_operators.specs.Apply.{truth}
 use Rattle.tcl_operators.specs.Messages.{message_of as operator_message}
 use Rattle.tcl_operators.specs.declared.fault.OperatorFault.{OperatorFault}
+use Rattle.tcl_number_expressions.specs.AtHand.{ComesTo, IsNumberAtHand}
 use Rattle.tcl_parser.specs.Words.{WordRead}
+use Rattle.tcl_parser.specs.declared.script.Part.{Part}
 use Rattle.tcl_run.specs.declared.interruption.Interruption.{Interruption}
 use Rattle.tcl_run.specs.declared.interruption.Interruption.TheVariants as interruption
 use Rattle.tcl_run.specs.Ends.{Breaks, Gave, IfRan, Interrupts, IsFailure, Stays, failing}
@@ -37,6 +40,7 @@ use Rattle.tcl_tree.specs.Own.{Own}
 use Rattle.tcl_tree.specs.TreeOf.{tree_of}
 use Rattle.tcl_tree.specs.declared.tree.Place.{Place as TablePlace}
 use Rattle.tcl_tree.specs.declared.tree.Tree.{Tree as Table}
+use Rattle.tcl_calls.proofs.Gathering.{within_fits}
 use Rattle.tcl_calls.specs.Expressions.{IsKept, IsRefused, settles}
 use Rattle.tcl_calls.specs.Turns.{After, EndsIn, Goes, Leaves, Turns}
 use Rattle.tcl_calls.specs.Words.{EndsBy}
@@ -119,6 +123,23 @@ module _ {S : Type 0} {ways : Ways S} (style : Integers) where
 
   pub misread : {T : Tree Own} {o : S} {p : Path} (text : Text) (e : Reply) → IsFailure (expression_message text) (expression_of style text) e → Proceeds ways (language style) T o p (expression style text) T o (Some e)
   misread text e h = read_fails (expression_message text) (expression_of style text) _ e h
+
+  -- a computation whose parts are variables alone, each of which holds a value, goes on with what it comes to
+  pub at_hand : {T V : Tree Own} {o z : S} {p : Path} {r : Ending} {n : TreeNode Own} (c : Computation) (t : Text) (k : Text → Program) → T p ≡ Some n → ComesTo n.own.chain.frames c t →
+      Proceeds ways (language style) T o p (k t) V z r → Proceeds ways (language style) T o p (computed c k) V z r
+  at_hand (value v) t k there h s = at_prog (ap k h) s
+  at_hand (refused f) t k there h s = elim h [ ]
+  at_hand (substitute part next) t k there h s = part_goes part next k (ok h.1) h.1 refl refl
+      (at_prog (ap (λ (ps : List Part). parts ps [] []) h.2) (Steps.variable_goes style h.0 h.1 [] [] [] there h.3 (within_fits h.1 h.4) (completed)))
+      (at_hand (next h.1) t k there h.5 s)
+
+  -- an expression whose operands are numbers at hand comes to its number in decimal
+  pub number_at_hand : {T : Tree Own} {o : S} {p : Path} {n : TreeNode Own} (s : Integers) (nodes : List Node) (m : ℤ) (v : Text) → s ≡ style → T p ≡ Some n → IsNumberAtHand n.own.chain.frames s nodes m → v ≡ signed_decimal m →
+      Proceeds ways (language style) T o p (computed (from style nodes 0 []) (settles style)) T o (Some (Completed (ok v)))
+  number_at_hand {T} {o} {p} {n} s nodes m v same there h e =
+      let w = subst (λ (x : Integers). IsNumberAtHand n.own.chain.frames x nodes m) same h in
+      at_hand (from style nodes 0 []) w.0 (settles style) there w.1
+      (reads_on operator_message (λ result. done (ok result)) (ap (settled w.0) w.2) (at_reply (ap (λ (x : Text). Completed (ok x)) e) completed))
 
   -- ## expr
 

@@ -10,8 +10,8 @@ use crate::evaluation::eval_value;
 use crate::operands::eval_operand;
 use std::alloc::Global;
 use tcl_calls::branches::{Branches, branches_of};
-use tcl_calls::expressions::{holds, next_part, read_expression, settle};
-use tcl_calls::scripts::script_of;
+use tcl_calls::expressions::{holds, next_part, number_at, read_expression, settle};
+use tcl_calls::scripts::{keep_place, keep_place_of, script_of};
 use tcl_calls::turns::{goes_on, turns_on};
 use tcl_expr::tree::ExprTree;
 use tcl_expression_evaluation::evaluation::{Evaluation, Progress};
@@ -23,7 +23,7 @@ use tcl_tree::tree::{Place, Tree};
 use tcl_value::value::Value;
 
 /// The value of an expression that was read. Its parts are substituted as they are needed, from
-/// left to right.
+/// left to right. Where all of them are numbers at hand, it is computed at once.
 ///
 /// # Errors
 /// 111 to 113 and 212 to 216 of the operands; those of what is substituted; want of memory.
@@ -45,11 +45,14 @@ fn expression<O: Outside>(
     ensures keeps { Keeps O.entries_left tree.old tree.new outside.old outside.new }
 {
     let style = tree.integers();
+    if let Some(number) = number_at(tree, place, style, kept) {
+        return Ok(Value::from_int(number));
+    }
     evaluation.restart();
     'parts: loop {
         match next_part(evaluation, alloc, kept, style)? {
-            Progress::Wants(word) => {
-                let value = on_ok(eval_operand(tree, alloc, outside, place, word))?;
+            Progress::Wants(operand) => {
+                let value = on_ok(eval_operand(tree, alloc, outside, place, operand))?;
                 evaluation.supply(value)?;
             }
             Progress::Done(value) => return settle(alloc, style, value),
@@ -107,6 +110,7 @@ pub fn expr<O: Outside>(
     }
     let text = script_of(alloc, args)?;
     let kept = read_expression(tree, alloc, tree.integers(), &text)?;
+    keep_place(args, &text);
     let mut evaluation = Evaluation::new(alloc);
     expression(tree, alloc, outside, place, &mut evaluation, &kept)
 }
@@ -140,14 +144,18 @@ pub fn if_first<O: Outside>(
         let test = read_expression(tree, alloc, tree.integers(), branch.test)?;
         if condition(tree, alloc, outside, place, &mut evaluation, &test)? {
             let mut body = branch.body.clone()?;
-            return eval_value(tree, alloc, outside, place, &mut body);
+            let ended = eval_value(tree, alloc, outside, place, &mut body);
+            keep_place_of(branch.body, &body);
+            return ended;
         }
     }
     let Some(last) = last else {
         return Ok(Value::empty());
     };
     let mut body = last.clone()?;
-    eval_value(tree, alloc, outside, place, &mut body)
+    let ended = eval_value(tree, alloc, outside, place, &mut body);
+    keep_place_of(last, &body);
+    ended
 }
 
 /// A turn of a loop with a condition: whether the loop goes on. Where the condition holds, the turn

@@ -10,6 +10,7 @@ ghost use Rattle.tcl_evaluation.specs.View.{AreSingle};
 use crate::commands::call;
 use crate::evaluation::eval_word;
 use std::alloc::Global;
+use tcl_calls::scripts::keep_place_of;
 use tcl_calls::words::spread;
 use tcl_prepared::prepared::PreparedWord;
 use tcl_run::interruption::Interruption;
@@ -118,6 +119,15 @@ fn are_single(words: &[PreparedWord]) -> bool
     true
 }
 
+/// Keeps in the literals among words the places that their copies keep.
+fn keep_places(words: &[PreparedWord], texts: &[Value]) {
+    'words: for i in 0..words.len().min(texts.len()) {
+        if let PreparedWord::Literal(literal) = &words[i] {
+            keep_place_of(literal, &texts[i]);
+        }
+    }
+}
+
 /// Calls the command of any number of words, which may be spread.
 #[cycle(eval)]
 #[inline(never)]
@@ -165,7 +175,9 @@ fn call_two<O: Outside>(
     let first_text = on_ok(eval_word(tree, alloc, outside, place, first))?;
     let second_text = on_ok(eval_word(tree, alloc, outside, place, second))?;
     let texts = [first_text, second_text];
-    call_texts(tree, alloc, outside, place, &texts)
+    let ended = call_texts(tree, alloc, outside, place, &texts);
+    keep_places(words, &texts);
+    ended
 }
 
 /// The same of three words.
@@ -192,7 +204,9 @@ fn call_three<O: Outside>(
     let second_text = on_ok(eval_word(tree, alloc, outside, place, second))?;
     let third_text = on_ok(eval_word(tree, alloc, outside, place, third))?;
     let texts = [first_text, second_text, third_text];
-    call_texts(tree, alloc, outside, place, &texts)
+    let ended = call_texts(tree, alloc, outside, place, &texts);
+    keep_places(words, &texts);
+    ended
 }
 
 /// The same of four words.
@@ -220,5 +234,7 @@ fn call_four<O: Outside>(
     let third_text = on_ok(eval_word(tree, alloc, outside, place, third))?;
     let fourth_text = on_ok(eval_word(tree, alloc, outside, place, fourth))?;
     let texts = [first_text, second_text, third_text, fourth_text];
-    call_texts(tree, alloc, outside, place, &texts)
+    let ended = call_texts(tree, alloc, outside, place, &texts);
+    keep_places(words, &texts);
+    ended
 }

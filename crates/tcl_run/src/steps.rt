@@ -21,13 +21,12 @@ ghost use Rattle.tcl_text.specs.Writing.{fault_message};
 use crate::failure::failure;
 use crate::interruption::{Cause, Interruption};
 use crate::outside::Outside;
-use std::alloc::Global;
+use std::alloc::{AllocError, Global};
 use tcl_flow::completion::OK;
 use tcl_flow::stop::{Stop, StopKind};
 use tcl_frames::frames::Frames;
 use tcl_text::limit::MOST_BYTES;
 use tcl_text::list::ListError;
-use tcl_text::text::Text;
 use tcl_tree::tree::{Place, Tree};
 use tcl_value::list::List;
 use tcl_value::value::Value;
@@ -83,7 +82,7 @@ pub fn known_short(value: Value) -> Value
 }
 
 /// The frames of the interpreter that the place names.
-fn frames_seen(tree: &Tree, place: Place) -> Option<&Frames>
+pub fn frames_seen(tree: &Tree, place: Place) -> Option<&Frames>
     ensures { (p : Path) → Names tree.now place p → option_copied result ≡ option_map
         (λ n. n.own.chain) (tree_of tree.now p) }
 {
@@ -93,27 +92,7 @@ fn frames_seen(tree: &Tree, place: Place) -> Option<&Frames>
     }
 }
 
-/// The value of the variable of this name.
-pub fn read_variable(
-    tree: &Tree,
-    alloc: Global,
-    place: Place,
-    name: &Text,
-) -> Result<Value, Interruption>
-    ensures read { (p : Path) (n : core.Node Own) → Names tree.now place p →
-        tree_of tree.now p ≡ Some n → Gave frame_message (read n.own.chain.frames name.now) result }
-    ensures short { IfOk result (λ value. fits value ≡ true) }
-{
-    let Some(frames) = frames_seen(tree, place) else {
-        return Err(Interruption::Memory);
-    };
-    match frames.get(name) {
-        Ok(value) => Ok(known_short(value.clone()?)),
-        Err(error) => Err(frame_failure(alloc, error)),
-    }
-}
-
-/// The same, in less time where the name stands where it was found last.
+/// The value of the variable of this name, in less time where it stands where it was found last.
 pub fn read_named(
     tree: &Tree,
     alloc: Global,
@@ -131,6 +110,42 @@ pub fn read_named(
         Ok(value) => Ok(known_short(value.clone()?)),
         Err(error) => Err(frame_failure(alloc, error)),
     }
+}
+
+/// The name of a variable that a word is. Its hint is the place that the word keeps.
+///
+/// # Errors
+/// Want of memory.
+pub fn variable_name(alloc: Global, word: &Value) -> Result<VariableName, AllocError>
+    ensures { IfOk result (λ name. name ≡ word.now) }
+{
+    let name = VariableName::new(word.text(alloc)?);
+    match word.place() {
+        Some(place) => Ok(name.with_hint(place)),
+        None => Ok(name),
+    }
+}
+
+/// Keeps the hint of a name with the word that it was made of, if the word can keep a place.
+pub fn keep_hint(word: &Value, name: &VariableName) {
+    word.keep_place(name.hint());
+}
+
+/// The value of the variable that a word names, which is sought where the word's place says first.
+pub fn read_by_word(
+    tree: &Tree,
+    alloc: Global,
+    place: Place,
+    word: &Value,
+) -> Result<Value, Interruption>
+    ensures read { (p : Path) (n : core.Node Own) → Names tree.now place p →
+        tree_of tree.now p ≡ Some n → Gave frame_message (read n.own.chain.frames word.now) result }
+    ensures short { IfOk result (λ value. fits value ≡ true) }
+{
+    let name = variable_name(alloc, word)?;
+    let value = read_named(tree, alloc, place, &name);
+    keep_hint(word, &name);
+    value
 }
 
 /// The text of an ordinary completion, on which its caller goes on; anything else is the caller's
@@ -213,12 +228,12 @@ fn refusal<O: Outside>(tree: &Tree, outside: &mut O, place: Place) -> Interrupti
     }
 }
 
-/// Sets the variable of this name.
-pub fn write_variable(
+/// Sets the variable of this name, in less time where it stands where it was found last.
+pub fn write_named(
     tree: &mut Tree,
     alloc: Global,
     place: Place,
-    name: &Text,
+    name: &VariableName,
     value: Value,
 ) -> Result<(), Interruption>
     requires { (p : Path) × Names tree.old place p }
@@ -235,8 +250,33 @@ pub fn write_variable(
     let Some(frames) = tree.frames_of(place) else {
         return Err(Interruption::Memory);
     };
-    match frames.set(alloc, name, value) {
+    match frames.set_near(alloc, name, value) {
         Ok(()) => Ok(()),
         Err(error) => Err(frame_failure(alloc, error)),
     }
+}
+
+/// Sets the variable that a word names, which is sought where the word's place says first.
+pub fn write_by_word(
+    tree: &mut Tree,
+    alloc: Global,
+    place: Place,
+    word: &Value,
+    value: Value,
+) -> Result<(), Interruption>
+    requires { (p : Path) × Names tree.old place p }
+    ensures written { OnOk result ((p : Path) (n : core.Node Own) → Names tree.old place p →
+        tree_of tree.old p ≡ Some n → Rechained (tree_of tree.old) p n.own
+        (after_set n.own.chain word.now value) (tree_of tree.new)) }
+    ensures refused { IfErr result
+        (λ i. Interrupts i (λ e. (p : Path) (n : core.Node Own) → Names tree.old place p →
+        tree_of tree.old p ≡ Some n → IsFailure frame_message (after_set n.own.chain word.now value)
+        e)) }
+    ensures unchanged { OnErr result (tree_of tree.new ≡ tree_of tree.old) }
+    ensures level { IsLevel tree.old tree.new }
+{
+    let name = variable_name(alloc, word)?;
+    let written = write_named(tree, alloc, place, &name, value);
+    keep_hint(word, &name);
+    written
 }

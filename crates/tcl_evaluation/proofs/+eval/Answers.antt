@@ -349,8 +349,8 @@ words::call_two-returns-in_err-second_text-clause-here g t c =
 pub words::call_two-returns-in_err-second_text-clause-keeps : goal.words::call_two-returns-in_err-second_text-clause-keeps
 words::call_two-returns-in_err-second_text-clause-keeps g t c = keeps-trans c.eval_word.ensures.keeps c.eval_word-2.ensures.keeps
 
-pub words::call_two-call_texts-requires : goal.words::call_two-call_texts-requires
-words::call_two-call_texts-requires g t c κs within = (search rules, (search rules, still_running c.args.tree.now c.eval_word-2.new.tree c.args.place (here-trans c.args.tree.now c.eval_word.new.tree c.eval_word-2.new.tree c.args.place (here_text c.eval_word.result c.in_ok-first_text.first_text c.args.tree.now c.eval_word.new.tree c.args.place c.in_ok-first_text.ensures.text c.eval_word.ensures.here) (here_text c.eval_word-2.result c.in_ok-second_text.second_text c.eval_word.new.tree c.eval_word-2.new.tree c.args.place c.in_ok-second_text.ensures.text c.eval_word-2.ensures.here)) c.requires.running))
+pub words::call_two-call_texts-ended-requires : goal.words::call_two-call_texts-ended-requires
+words::call_two-call_texts-ended-requires g t c κs within = (search rules, (search rules, still_running c.args.tree.now c.eval_word-2.new.tree c.args.place (here-trans c.args.tree.now c.eval_word.new.tree c.eval_word-2.new.tree c.args.place (here_text c.eval_word.result c.in_ok-first_text.first_text c.args.tree.now c.eval_word.new.tree c.args.place c.in_ok-first_text.ensures.text c.eval_word.ensures.here) (here_text c.eval_word-2.result c.in_ok-second_text.second_text c.eval_word.new.tree c.eval_word-2.new.tree c.args.place c.in_ok-second_text.ensures.text c.eval_word-2.ensures.here)) c.requires.running))
 
 pub words::call_two-returns-clause-runs : goal.words::call_two-returns-clause-runs
 words::call_two-returns-clause-runs g t c =
@@ -358,20 +358,20 @@ words::call_two-returns-clause-runs g t c =
     let single = subst AreSingle is c.requires.single in
     let x1 = ran_text c.eval_word.result c.in_ok-first_text.first_text (EndsFrom (ways g.O.Outside.goes g.O.Outside.loses) c.args.tree.now c.args.outside.now c.args.place (λ style. parts (seen_word c.first-item.result).parts [] []) c.eval_word.new.tree c.eval_word.new.outside) c.in_ok-first_text.ensures.text c.eval_word.ensures.runs in
     let x2 = ran_text c.eval_word-2.result c.in_ok-second_text.second_text (EndsFrom (ways g.O.Outside.goes g.O.Outside.loses) c.eval_word.new.tree c.eval_word.new.outside c.args.place (λ style. parts (seen_word c.second-item.result).parts [] []) c.eval_word-2.new.tree c.eval_word-2.new.outside) c.in_ok-second_text.ensures.text c.eval_word-2.ensures.runs in
-    IfRan-more c.call_texts.result (EndsFrom (ways g.O.Outside.goes g.O.Outside.loses) c.eval_word-2.new.tree c.eval_word-2.new.outside c.args.place (λ style. words [] (c.in_ok-first_text.first_text ∷ c.in_ok-second_text.second_text ∷ [])) c.call_texts.new.tree c.call_texts.new.outside)
-    (EndsFrom (ways g.O.Outside.goes g.O.Outside.loses) c.args.tree.now c.args.outside.now c.args.place (λ style. words (map seen_word c.args.words.now) []) c.call_texts.new.tree c.call_texts.new.outside) (λ e h q style at.
+    IfRan-more c.call_texts-ended.result (EndsFrom (ways g.O.Outside.goes g.O.Outside.loses) c.eval_word-2.new.tree c.eval_word-2.new.outside c.args.place (λ style. words [] (c.in_ok-first_text.first_text ∷ c.in_ok-second_text.second_text ∷ [])) c.call_texts-ended.new.tree c.call_texts-ended.new.outside)
+    (EndsFrom (ways g.O.Outside.goes g.O.Outside.loses) c.args.tree.now c.args.outside.now c.args.place (λ style. words (map seen_word c.args.words.now) []) c.call_texts-ended.new.tree c.call_texts-ended.new.outside) (λ e h q style at.
     let at1 = still_at c.args.tree.now c.eval_word.new.tree c.args.place q style (here_text c.eval_word.result c.in_ok-first_text.first_text c.args.tree.now c.eval_word.new.tree c.args.place c.in_ok-first_text.ensures.text c.eval_word.ensures.here) at in
     let at2 = still_at c.eval_word.new.tree c.eval_word-2.new.tree c.args.place q style (here_text c.eval_word-2.result c.in_ok-second_text.second_text c.eval_word.new.tree c.eval_word-2.new.tree c.args.place c.in_ok-second_text.ensures.text c.eval_word-2.ensures.here) at1 in
     at_prog (ap (λ (ws : List WordRead). words ws []) is)
     (Steps.single_goes style (seen_word c.first-item.result) _ [] x1.0 c.in_ok-first_text.first_text single.0 x1.2 x1.3 (x1.1 q style at)
     (Steps.single_goes style (seen_word c.second-item.result) _ (c.in_ok-first_text.first_text ∷ []) x2.0 c.in_ok-second_text.second_text single.1.0 x2.2 x2.3 (x2.1 q style at1)
-    (h q style at2)))) c.call_texts.ensures.runs
+    (h q style at2)))) c.call_texts-ended.ensures.runs
 
 pub words::call_two-returns-clause-here : goal.words::call_two-returns-clause-here
-words::call_two-returns-clause-here g t c = here_then c.call_texts.result c.args.tree.now c.eval_word-2.new.tree c.call_texts.new.tree c.args.place (here-trans c.args.tree.now c.eval_word.new.tree c.eval_word-2.new.tree c.args.place (here_text c.eval_word.result c.in_ok-first_text.first_text c.args.tree.now c.eval_word.new.tree c.args.place c.in_ok-first_text.ensures.text c.eval_word.ensures.here) (here_text c.eval_word-2.result c.in_ok-second_text.second_text c.eval_word.new.tree c.eval_word-2.new.tree c.args.place c.in_ok-second_text.ensures.text c.eval_word-2.ensures.here)) c.call_texts.ensures.here
+words::call_two-returns-clause-here g t c = here_then c.call_texts-ended.result c.args.tree.now c.eval_word-2.new.tree c.call_texts-ended.new.tree c.args.place (here-trans c.args.tree.now c.eval_word.new.tree c.eval_word-2.new.tree c.args.place (here_text c.eval_word.result c.in_ok-first_text.first_text c.args.tree.now c.eval_word.new.tree c.args.place c.in_ok-first_text.ensures.text c.eval_word.ensures.here) (here_text c.eval_word-2.result c.in_ok-second_text.second_text c.eval_word.new.tree c.eval_word-2.new.tree c.args.place c.in_ok-second_text.ensures.text c.eval_word-2.ensures.here)) c.call_texts-ended.ensures.here
 
 pub words::call_two-returns-clause-keeps : goal.words::call_two-returns-clause-keeps
-words::call_two-returns-clause-keeps g t c = keeps-trans (keeps-trans c.eval_word.ensures.keeps c.eval_word-2.ensures.keeps) c.call_texts.ensures.keeps
+words::call_two-returns-clause-keeps g t c = keeps-trans (keeps-trans c.eval_word.ensures.keeps c.eval_word-2.ensures.keeps) c.call_texts-ended.ensures.keeps
 
 -- three words
 
@@ -443,8 +443,8 @@ words::call_three-returns-in_err-third_text-clause-here g t c =
 pub words::call_three-returns-in_err-third_text-clause-keeps : goal.words::call_three-returns-in_err-third_text-clause-keeps
 words::call_three-returns-in_err-third_text-clause-keeps g t c = keeps-trans (keeps-trans c.eval_word.ensures.keeps c.eval_word-2.ensures.keeps) c.eval_word-3.ensures.keeps
 
-pub words::call_three-call_texts-requires : goal.words::call_three-call_texts-requires
-words::call_three-call_texts-requires g t c κs within = (search rules, (search rules, still_running c.args.tree.now c.eval_word-3.new.tree c.args.place (here-trans c.args.tree.now c.eval_word-2.new.tree c.eval_word-3.new.tree c.args.place (here-trans c.args.tree.now c.eval_word.new.tree c.eval_word-2.new.tree c.args.place (here_text c.eval_word.result c.in_ok-first_text.first_text c.args.tree.now c.eval_word.new.tree c.args.place c.in_ok-first_text.ensures.text c.eval_word.ensures.here) (here_text c.eval_word-2.result c.in_ok-second_text.second_text c.eval_word.new.tree c.eval_word-2.new.tree c.args.place c.in_ok-second_text.ensures.text c.eval_word-2.ensures.here)) (here_text c.eval_word-3.result c.in_ok-third_text.third_text c.eval_word-2.new.tree c.eval_word-3.new.tree c.args.place c.in_ok-third_text.ensures.text c.eval_word-3.ensures.here)) c.requires.running))
+pub words::call_three-call_texts-ended-requires : goal.words::call_three-call_texts-ended-requires
+words::call_three-call_texts-ended-requires g t c κs within = (search rules, (search rules, still_running c.args.tree.now c.eval_word-3.new.tree c.args.place (here-trans c.args.tree.now c.eval_word-2.new.tree c.eval_word-3.new.tree c.args.place (here-trans c.args.tree.now c.eval_word.new.tree c.eval_word-2.new.tree c.args.place (here_text c.eval_word.result c.in_ok-first_text.first_text c.args.tree.now c.eval_word.new.tree c.args.place c.in_ok-first_text.ensures.text c.eval_word.ensures.here) (here_text c.eval_word-2.result c.in_ok-second_text.second_text c.eval_word.new.tree c.eval_word-2.new.tree c.args.place c.in_ok-second_text.ensures.text c.eval_word-2.ensures.here)) (here_text c.eval_word-3.result c.in_ok-third_text.third_text c.eval_word-2.new.tree c.eval_word-3.new.tree c.args.place c.in_ok-third_text.ensures.text c.eval_word-3.ensures.here)) c.requires.running))
 
 pub words::call_three-returns-clause-runs : goal.words::call_three-returns-clause-runs
 words::call_three-returns-clause-runs g t c =
@@ -453,8 +453,8 @@ words::call_three-returns-clause-runs g t c =
     let x1 = ran_text c.eval_word.result c.in_ok-first_text.first_text (EndsFrom (ways g.O.Outside.goes g.O.Outside.loses) c.args.tree.now c.args.outside.now c.args.place (λ style. parts (seen_word c.first-item.result).parts [] []) c.eval_word.new.tree c.eval_word.new.outside) c.in_ok-first_text.ensures.text c.eval_word.ensures.runs in
     let x2 = ran_text c.eval_word-2.result c.in_ok-second_text.second_text (EndsFrom (ways g.O.Outside.goes g.O.Outside.loses) c.eval_word.new.tree c.eval_word.new.outside c.args.place (λ style. parts (seen_word c.second-item.result).parts [] []) c.eval_word-2.new.tree c.eval_word-2.new.outside) c.in_ok-second_text.ensures.text c.eval_word-2.ensures.runs in
     let x3 = ran_text c.eval_word-3.result c.in_ok-third_text.third_text (EndsFrom (ways g.O.Outside.goes g.O.Outside.loses) c.eval_word-2.new.tree c.eval_word-2.new.outside c.args.place (λ style. parts (seen_word c.third-item.result).parts [] []) c.eval_word-3.new.tree c.eval_word-3.new.outside) c.in_ok-third_text.ensures.text c.eval_word-3.ensures.runs in
-    IfRan-more c.call_texts.result (EndsFrom (ways g.O.Outside.goes g.O.Outside.loses) c.eval_word-3.new.tree c.eval_word-3.new.outside c.args.place (λ style. words [] (c.in_ok-first_text.first_text ∷ c.in_ok-second_text.second_text ∷ c.in_ok-third_text.third_text ∷ [])) c.call_texts.new.tree c.call_texts.new.outside)
-    (EndsFrom (ways g.O.Outside.goes g.O.Outside.loses) c.args.tree.now c.args.outside.now c.args.place (λ style. words (map seen_word c.args.words.now) []) c.call_texts.new.tree c.call_texts.new.outside) (λ e h q style at.
+    IfRan-more c.call_texts-ended.result (EndsFrom (ways g.O.Outside.goes g.O.Outside.loses) c.eval_word-3.new.tree c.eval_word-3.new.outside c.args.place (λ style. words [] (c.in_ok-first_text.first_text ∷ c.in_ok-second_text.second_text ∷ c.in_ok-third_text.third_text ∷ [])) c.call_texts-ended.new.tree c.call_texts-ended.new.outside)
+    (EndsFrom (ways g.O.Outside.goes g.O.Outside.loses) c.args.tree.now c.args.outside.now c.args.place (λ style. words (map seen_word c.args.words.now) []) c.call_texts-ended.new.tree c.call_texts-ended.new.outside) (λ e h q style at.
     let at1 = still_at c.args.tree.now c.eval_word.new.tree c.args.place q style (here_text c.eval_word.result c.in_ok-first_text.first_text c.args.tree.now c.eval_word.new.tree c.args.place c.in_ok-first_text.ensures.text c.eval_word.ensures.here) at in
     let at2 = still_at c.eval_word.new.tree c.eval_word-2.new.tree c.args.place q style (here_text c.eval_word-2.result c.in_ok-second_text.second_text c.eval_word.new.tree c.eval_word-2.new.tree c.args.place c.in_ok-second_text.ensures.text c.eval_word-2.ensures.here) at1 in
     let at3 = still_at c.eval_word-2.new.tree c.eval_word-3.new.tree c.args.place q style (here_text c.eval_word-3.result c.in_ok-third_text.third_text c.eval_word-2.new.tree c.eval_word-3.new.tree c.args.place c.in_ok-third_text.ensures.text c.eval_word-3.ensures.here) at2 in
@@ -462,13 +462,13 @@ words::call_three-returns-clause-runs g t c =
     (Steps.single_goes style (seen_word c.first-item.result) _ [] x1.0 c.in_ok-first_text.first_text single.0 x1.2 x1.3 (x1.1 q style at)
     (Steps.single_goes style (seen_word c.second-item.result) _ (c.in_ok-first_text.first_text ∷ []) x2.0 c.in_ok-second_text.second_text single.1.0 x2.2 x2.3 (x2.1 q style at1)
     (Steps.single_goes style (seen_word c.third-item.result) _ (c.in_ok-first_text.first_text ∷ c.in_ok-second_text.second_text ∷ []) x3.0 c.in_ok-third_text.third_text single.1.1.0 x3.2 x3.3 (x3.1 q style at2)
-    (h q style at3))))) c.call_texts.ensures.runs
+    (h q style at3))))) c.call_texts-ended.ensures.runs
 
 pub words::call_three-returns-clause-here : goal.words::call_three-returns-clause-here
-words::call_three-returns-clause-here g t c = here_then c.call_texts.result c.args.tree.now c.eval_word-3.new.tree c.call_texts.new.tree c.args.place (here-trans c.args.tree.now c.eval_word-2.new.tree c.eval_word-3.new.tree c.args.place (here-trans c.args.tree.now c.eval_word.new.tree c.eval_word-2.new.tree c.args.place (here_text c.eval_word.result c.in_ok-first_text.first_text c.args.tree.now c.eval_word.new.tree c.args.place c.in_ok-first_text.ensures.text c.eval_word.ensures.here) (here_text c.eval_word-2.result c.in_ok-second_text.second_text c.eval_word.new.tree c.eval_word-2.new.tree c.args.place c.in_ok-second_text.ensures.text c.eval_word-2.ensures.here)) (here_text c.eval_word-3.result c.in_ok-third_text.third_text c.eval_word-2.new.tree c.eval_word-3.new.tree c.args.place c.in_ok-third_text.ensures.text c.eval_word-3.ensures.here)) c.call_texts.ensures.here
+words::call_three-returns-clause-here g t c = here_then c.call_texts-ended.result c.args.tree.now c.eval_word-3.new.tree c.call_texts-ended.new.tree c.args.place (here-trans c.args.tree.now c.eval_word-2.new.tree c.eval_word-3.new.tree c.args.place (here-trans c.args.tree.now c.eval_word.new.tree c.eval_word-2.new.tree c.args.place (here_text c.eval_word.result c.in_ok-first_text.first_text c.args.tree.now c.eval_word.new.tree c.args.place c.in_ok-first_text.ensures.text c.eval_word.ensures.here) (here_text c.eval_word-2.result c.in_ok-second_text.second_text c.eval_word.new.tree c.eval_word-2.new.tree c.args.place c.in_ok-second_text.ensures.text c.eval_word-2.ensures.here)) (here_text c.eval_word-3.result c.in_ok-third_text.third_text c.eval_word-2.new.tree c.eval_word-3.new.tree c.args.place c.in_ok-third_text.ensures.text c.eval_word-3.ensures.here)) c.call_texts-ended.ensures.here
 
 pub words::call_three-returns-clause-keeps : goal.words::call_three-returns-clause-keeps
-words::call_three-returns-clause-keeps g t c = keeps-trans (keeps-trans (keeps-trans c.eval_word.ensures.keeps c.eval_word-2.ensures.keeps) c.eval_word-3.ensures.keeps) c.call_texts.ensures.keeps
+words::call_three-returns-clause-keeps g t c = keeps-trans (keeps-trans (keeps-trans c.eval_word.ensures.keeps c.eval_word-2.ensures.keeps) c.eval_word-3.ensures.keeps) c.call_texts-ended.ensures.keeps
 
 -- four words
 
@@ -571,8 +571,8 @@ words::call_four-returns-in_err-fourth_text-clause-here g t c =
 pub words::call_four-returns-in_err-fourth_text-clause-keeps : goal.words::call_four-returns-in_err-fourth_text-clause-keeps
 words::call_four-returns-in_err-fourth_text-clause-keeps g t c = keeps-trans (keeps-trans (keeps-trans c.eval_word.ensures.keeps c.eval_word-2.ensures.keeps) c.eval_word-3.ensures.keeps) c.eval_word-4.ensures.keeps
 
-pub words::call_four-call_texts-requires : goal.words::call_four-call_texts-requires
-words::call_four-call_texts-requires g t c κs within = (search rules, (search rules, still_running c.args.tree.now c.eval_word-4.new.tree c.args.place (here-trans c.args.tree.now c.eval_word-3.new.tree c.eval_word-4.new.tree c.args.place (here-trans c.args.tree.now c.eval_word-2.new.tree c.eval_word-3.new.tree c.args.place (here-trans c.args.tree.now c.eval_word.new.tree c.eval_word-2.new.tree c.args.place (here_text c.eval_word.result c.in_ok-first_text.first_text c.args.tree.now c.eval_word.new.tree c.args.place c.in_ok-first_text.ensures.text c.eval_word.ensures.here) (here_text c.eval_word-2.result c.in_ok-second_text.second_text c.eval_word.new.tree c.eval_word-2.new.tree c.args.place c.in_ok-second_text.ensures.text c.eval_word-2.ensures.here)) (here_text c.eval_word-3.result c.in_ok-third_text.third_text c.eval_word-2.new.tree c.eval_word-3.new.tree c.args.place c.in_ok-third_text.ensures.text c.eval_word-3.ensures.here)) (here_text c.eval_word-4.result c.in_ok-fourth_text.fourth_text c.eval_word-3.new.tree c.eval_word-4.new.tree c.args.place c.in_ok-fourth_text.ensures.text c.eval_word-4.ensures.here)) c.requires.running))
+pub words::call_four-call_texts-ended-requires : goal.words::call_four-call_texts-ended-requires
+words::call_four-call_texts-ended-requires g t c κs within = (search rules, (search rules, still_running c.args.tree.now c.eval_word-4.new.tree c.args.place (here-trans c.args.tree.now c.eval_word-3.new.tree c.eval_word-4.new.tree c.args.place (here-trans c.args.tree.now c.eval_word-2.new.tree c.eval_word-3.new.tree c.args.place (here-trans c.args.tree.now c.eval_word.new.tree c.eval_word-2.new.tree c.args.place (here_text c.eval_word.result c.in_ok-first_text.first_text c.args.tree.now c.eval_word.new.tree c.args.place c.in_ok-first_text.ensures.text c.eval_word.ensures.here) (here_text c.eval_word-2.result c.in_ok-second_text.second_text c.eval_word.new.tree c.eval_word-2.new.tree c.args.place c.in_ok-second_text.ensures.text c.eval_word-2.ensures.here)) (here_text c.eval_word-3.result c.in_ok-third_text.third_text c.eval_word-2.new.tree c.eval_word-3.new.tree c.args.place c.in_ok-third_text.ensures.text c.eval_word-3.ensures.here)) (here_text c.eval_word-4.result c.in_ok-fourth_text.fourth_text c.eval_word-3.new.tree c.eval_word-4.new.tree c.args.place c.in_ok-fourth_text.ensures.text c.eval_word-4.ensures.here)) c.requires.running))
 
 pub words::call_four-returns-clause-runs : goal.words::call_four-returns-clause-runs
 words::call_four-returns-clause-runs g t c =
@@ -582,8 +582,8 @@ words::call_four-returns-clause-runs g t c =
     let x2 = ran_text c.eval_word-2.result c.in_ok-second_text.second_text (EndsFrom (ways g.O.Outside.goes g.O.Outside.loses) c.eval_word.new.tree c.eval_word.new.outside c.args.place (λ style. parts (seen_word c.second-item.result).parts [] []) c.eval_word-2.new.tree c.eval_word-2.new.outside) c.in_ok-second_text.ensures.text c.eval_word-2.ensures.runs in
     let x3 = ran_text c.eval_word-3.result c.in_ok-third_text.third_text (EndsFrom (ways g.O.Outside.goes g.O.Outside.loses) c.eval_word-2.new.tree c.eval_word-2.new.outside c.args.place (λ style. parts (seen_word c.third-item.result).parts [] []) c.eval_word-3.new.tree c.eval_word-3.new.outside) c.in_ok-third_text.ensures.text c.eval_word-3.ensures.runs in
     let x4 = ran_text c.eval_word-4.result c.in_ok-fourth_text.fourth_text (EndsFrom (ways g.O.Outside.goes g.O.Outside.loses) c.eval_word-3.new.tree c.eval_word-3.new.outside c.args.place (λ style. parts (seen_word c.fourth-item.result).parts [] []) c.eval_word-4.new.tree c.eval_word-4.new.outside) c.in_ok-fourth_text.ensures.text c.eval_word-4.ensures.runs in
-    IfRan-more c.call_texts.result (EndsFrom (ways g.O.Outside.goes g.O.Outside.loses) c.eval_word-4.new.tree c.eval_word-4.new.outside c.args.place (λ style. words [] (c.in_ok-first_text.first_text ∷ c.in_ok-second_text.second_text ∷ c.in_ok-third_text.third_text ∷ c.in_ok-fourth_text.fourth_text ∷ [])) c.call_texts.new.tree c.call_texts.new.outside)
-    (EndsFrom (ways g.O.Outside.goes g.O.Outside.loses) c.args.tree.now c.args.outside.now c.args.place (λ style. words (map seen_word c.args.words.now) []) c.call_texts.new.tree c.call_texts.new.outside) (λ e h q style at.
+    IfRan-more c.call_texts-ended.result (EndsFrom (ways g.O.Outside.goes g.O.Outside.loses) c.eval_word-4.new.tree c.eval_word-4.new.outside c.args.place (λ style. words [] (c.in_ok-first_text.first_text ∷ c.in_ok-second_text.second_text ∷ c.in_ok-third_text.third_text ∷ c.in_ok-fourth_text.fourth_text ∷ [])) c.call_texts-ended.new.tree c.call_texts-ended.new.outside)
+    (EndsFrom (ways g.O.Outside.goes g.O.Outside.loses) c.args.tree.now c.args.outside.now c.args.place (λ style. words (map seen_word c.args.words.now) []) c.call_texts-ended.new.tree c.call_texts-ended.new.outside) (λ e h q style at.
     let at1 = still_at c.args.tree.now c.eval_word.new.tree c.args.place q style (here_text c.eval_word.result c.in_ok-first_text.first_text c.args.tree.now c.eval_word.new.tree c.args.place c.in_ok-first_text.ensures.text c.eval_word.ensures.here) at in
     let at2 = still_at c.eval_word.new.tree c.eval_word-2.new.tree c.args.place q style (here_text c.eval_word-2.result c.in_ok-second_text.second_text c.eval_word.new.tree c.eval_word-2.new.tree c.args.place c.in_ok-second_text.ensures.text c.eval_word-2.ensures.here) at1 in
     let at3 = still_at c.eval_word-2.new.tree c.eval_word-3.new.tree c.args.place q style (here_text c.eval_word-3.result c.in_ok-third_text.third_text c.eval_word-2.new.tree c.eval_word-3.new.tree c.args.place c.in_ok-third_text.ensures.text c.eval_word-3.ensures.here) at2 in
@@ -593,13 +593,13 @@ words::call_four-returns-clause-runs g t c =
     (Steps.single_goes style (seen_word c.second-item.result) _ (c.in_ok-first_text.first_text ∷ []) x2.0 c.in_ok-second_text.second_text single.1.0 x2.2 x2.3 (x2.1 q style at1)
     (Steps.single_goes style (seen_word c.third-item.result) _ (c.in_ok-first_text.first_text ∷ c.in_ok-second_text.second_text ∷ []) x3.0 c.in_ok-third_text.third_text single.1.1.0 x3.2 x3.3 (x3.1 q style at2)
     (Steps.single_goes style (seen_word c.fourth-item.result) _ (c.in_ok-first_text.first_text ∷ c.in_ok-second_text.second_text ∷ c.in_ok-third_text.third_text ∷ []) x4.0 c.in_ok-fourth_text.fourth_text single.1.1.1.0 x4.2 x4.3 (x4.1 q style at3)
-    (h q style at4)))))) c.call_texts.ensures.runs
+    (h q style at4)))))) c.call_texts-ended.ensures.runs
 
 pub words::call_four-returns-clause-here : goal.words::call_four-returns-clause-here
-words::call_four-returns-clause-here g t c = here_then c.call_texts.result c.args.tree.now c.eval_word-4.new.tree c.call_texts.new.tree c.args.place (here-trans c.args.tree.now c.eval_word-3.new.tree c.eval_word-4.new.tree c.args.place (here-trans c.args.tree.now c.eval_word-2.new.tree c.eval_word-3.new.tree c.args.place (here-trans c.args.tree.now c.eval_word.new.tree c.eval_word-2.new.tree c.args.place (here_text c.eval_word.result c.in_ok-first_text.first_text c.args.tree.now c.eval_word.new.tree c.args.place c.in_ok-first_text.ensures.text c.eval_word.ensures.here) (here_text c.eval_word-2.result c.in_ok-second_text.second_text c.eval_word.new.tree c.eval_word-2.new.tree c.args.place c.in_ok-second_text.ensures.text c.eval_word-2.ensures.here)) (here_text c.eval_word-3.result c.in_ok-third_text.third_text c.eval_word-2.new.tree c.eval_word-3.new.tree c.args.place c.in_ok-third_text.ensures.text c.eval_word-3.ensures.here)) (here_text c.eval_word-4.result c.in_ok-fourth_text.fourth_text c.eval_word-3.new.tree c.eval_word-4.new.tree c.args.place c.in_ok-fourth_text.ensures.text c.eval_word-4.ensures.here)) c.call_texts.ensures.here
+words::call_four-returns-clause-here g t c = here_then c.call_texts-ended.result c.args.tree.now c.eval_word-4.new.tree c.call_texts-ended.new.tree c.args.place (here-trans c.args.tree.now c.eval_word-3.new.tree c.eval_word-4.new.tree c.args.place (here-trans c.args.tree.now c.eval_word-2.new.tree c.eval_word-3.new.tree c.args.place (here-trans c.args.tree.now c.eval_word.new.tree c.eval_word-2.new.tree c.args.place (here_text c.eval_word.result c.in_ok-first_text.first_text c.args.tree.now c.eval_word.new.tree c.args.place c.in_ok-first_text.ensures.text c.eval_word.ensures.here) (here_text c.eval_word-2.result c.in_ok-second_text.second_text c.eval_word.new.tree c.eval_word-2.new.tree c.args.place c.in_ok-second_text.ensures.text c.eval_word-2.ensures.here)) (here_text c.eval_word-3.result c.in_ok-third_text.third_text c.eval_word-2.new.tree c.eval_word-3.new.tree c.args.place c.in_ok-third_text.ensures.text c.eval_word-3.ensures.here)) (here_text c.eval_word-4.result c.in_ok-fourth_text.fourth_text c.eval_word-3.new.tree c.eval_word-4.new.tree c.args.place c.in_ok-fourth_text.ensures.text c.eval_word-4.ensures.here)) c.call_texts-ended.ensures.here
 
 pub words::call_four-returns-clause-keeps : goal.words::call_four-returns-clause-keeps
-words::call_four-returns-clause-keeps g t c = keeps-trans (keeps-trans (keeps-trans (keeps-trans c.eval_word.ensures.keeps c.eval_word-2.ensures.keeps) c.eval_word-3.ensures.keeps) c.eval_word-4.ensures.keeps) c.call_texts.ensures.keeps
+words::call_four-returns-clause-keeps g t c = keeps-trans (keeps-trans (keeps-trans (keeps-trans c.eval_word.ensures.keeps c.eval_word-2.ensures.keeps) c.eval_word-3.ensures.keeps) c.eval_word-4.ensures.keeps) c.call_texts-ended.ensures.keeps
 
 -- words of any kind
 
@@ -1308,91 +1308,33 @@ crossing::invoke_at-returns-clause-runs g t c =
 
 -- # Words among the operands of expressions
 
-pub operands::eval_lone_operand-returns-in_err-clone-in-Literal-clause-runs : goal.operands::eval_lone_operand-returns-in_err-clone-in-Literal-clause-runs
-operands::eval_lone_operand-returns-in_err-clone-in-Literal-clause-runs g t c =
-    let p = err_from_is_err_and c.from_residual.result c.from_residual.ensures.1 in
-    memory_err c.from_residual.result p.0 _ _ p.1 p.2 (λ q style at. stopped)
-
-pub operands::eval_lone_operand-returns-in_ok-clone-in-Literal-clause-runs : goal.operands::eval_lone_operand-returns-in_ok-clone-in-Literal-clause-runs
-operands::eval_lone_operand-returns-in_ok-clone-in-Literal-clause-runs g t c =
-    let is : c.args.part.now ≡ part.Literal c.in_ok-clone-in-Literal.field-0 = c.in-Literal.is ∙ ap (λ (text : List ℕ). part.Literal text) (sym c.in_ok-clone-in-Literal.ensures.cases) in
-    ran c.within.result (TextEnds c.in_ok-clone-in-Literal.field-0) (EndsFrom (ways g.O.Outside.goes g.O.Outside.loses) c.args.tree.now c.args.outside.now c.args.place (λ style. parts (c.args.part.now ∷ []) [] []) c.args.tree.now c.args.outside.now)
-    (λ e h q style at. Steps.lone_literal style c.args.part.now c.in_ok-clone-in-Literal.field-0 e is h) (λ q style at. stopped) (text_ends c.within.result c.in_ok-clone-in-Literal.field-0 c.within.ensures.whole c.within.ensures.refused)
-
-pub operands::eval_lone_operand-returns-in-Variable-clause-runs : goal.operands::eval_lone_operand-returns-in-Variable-clause-runs
-operands::eval_lone_operand-returns-in-Variable-clause-runs g t c =
-    ran c.read_variable.result (λ e. (p : Path) (n : Node Own) → Names c.args.tree.now c.args.place p → tree_of c.args.tree.now p ≡ Some n → VariableEnds c.in-Variable.name n e)
-    (EndsFrom (ways g.O.Outside.goes g.O.Outside.loses) c.args.tree.now c.args.outside.now c.args.place (λ style. parts (c.args.part.now ∷ []) [] []) c.args.tree.now c.args.outside.now)
-    (λ e h q style at. let n = stands (tree_of c.args.tree.now q) (tree_there c.args.tree.now q _ at.names) in Steps.lone_variable style c.args.part.now c.in-Variable.name e c.in-Variable.is n.1 (h q n.0 at.names n.1))
+pub operands::eval_operand-returns-in-Some-clause-runs : goal.operands::eval_operand-returns-in-Some-clause-runs
+operands::eval_operand-returns-in-Some-clause-runs g t c =
+    let is : c.args.operand.now.parts ≡ part.Variable c.in-Some.name.now ∷ [] = c.in-Some.ensures in
+    ran c.read_named.result (λ e. (p : Path) (n : Node Own) → Names c.args.tree.now c.args.place p → tree_of c.args.tree.now p ≡ Some n → VariableEnds c.in-Some.name.now n e)
+    (EndsFrom (ways g.O.Outside.goes g.O.Outside.loses) c.args.tree.now c.args.outside.now c.args.place (λ style. parts c.args.operand.now.parts [] []) c.args.tree.now c.args.outside.now)
+    (λ e h q style at. let n = stands (tree_of c.args.tree.now q) (tree_there c.args.tree.now q _ at.names) in at_prog (ap (λ (ps : List Part). parts ps [] []) is) (Steps.lone_variable style (part.Variable c.in-Some.name.now) c.in-Some.name.now e refl n.1 (h q n.0 at.names n.1)))
     (λ q style at. stopped)
-    (IfEnded-at c.read_variable.result c.args.tree.now c.args.place (VariableEnds c.in-Variable.name) (λ p n at there. variable_ends c.read_variable.result c.in-Variable.name n c.read_variable.ensures.short (c.read_variable.ensures.read p n at there)))
+    (IfEnded-at c.read_named.result c.args.tree.now c.args.place (VariableEnds c.in-Some.name.now) (λ p n at there. variable_ends c.read_named.result c.in-Some.name.now n c.read_named.ensures.short (c.read_named.ensures.read p n at there)))
 
-pub operands::eval_lone_operand-returns-in-Element-clause-runs : goal.operands::eval_lone_operand-returns-in-Element-clause-runs
-operands::eval_lone_operand-returns-in-Element-clause-runs g t c = λ q style at.
-    at_prog (ap (λ (y : Part). parts (y ∷ []) [] []) c.in-Element.is) (Steps.element_goes style c.in-Element.field-0 [] [] [] (at_reply (ap (λ (x : List ℕ). Completed (ok x)) c.empty.ensures) completed))
+pub operands::eval_operand-returns-in-Some-clause-here : goal.operands::eval_operand-returns-in-Some-clause-here
+operands::eval_operand-returns-in-Some-clause-here g t c = unmoved c.read_named.result c.args.tree.now c.args.place
 
-pub operands::eval_lone_operand-returns-in-EndElement-clause-runs : goal.operands::eval_lone_operand-returns-in-EndElement-clause-runs
-operands::eval_lone_operand-returns-in-EndElement-clause-runs g t c = λ q style at.
-    at_prog (ap (λ (y : Part). parts (y ∷ []) [] []) c.in-EndElement.is) (at_reply (ap (λ (x : List ℕ). Completed (ok x)) c.empty-in-EndElement.ensures) completed)
-
-pub operands::eval_lone_operand-returns-in_err-value-in-Script-clause-runs : goal.operands::eval_lone_operand-returns-in_err-value-in-Script-clause-runs
-operands::eval_lone_operand-returns-in_err-value-in-Script-clause-runs g t c =
-    let is : c.args.part.now ≡ part.Script c.in-Script.script = c.in-Script.is in
-    let p = err_from_is_err_and c.from_residual-in_err-value-in-Script.result c.from_residual-in_err-value-in-Script.ensures.1 in
-    ran_err c.from_residual-in_err-value-in-Script.result c.in_err-value-in-Script.field-0.0 p.0 _ _ _ p.1 p.2
-    (stays_of c.eval_text.result c.in_err-value-in-Script.field-0.0
-    (EndsAt (ways g.O.Outside.goes g.O.Outside.loses) c.args.tree.now c.args.outside.now c.args.place (λ style. script c.in-Script.script) c.eval_text.new.tree c.eval_text.new.outside)
-    c.in_err-value-in-Script.ensures.same c.eval_text.ensures.runs c.in_err-value-in-Script.ensures.stays)
-    (λ e h q style at. Steps.lone_stays style c.args.part.now c.in-Script.script e [] [] [] is h.1 (h.0 q style (record { names = at.names; style_is = at.style_is })))
-
-pub operands::eval_lone_operand-returns-in_ok-value-in-Script-clause-runs : goal.operands::eval_lone_operand-returns-in_ok-value-in-Script-clause-runs
-operands::eval_lone_operand-returns-in_ok-value-in-Script-clause-runs g t c =
-    let is : c.args.part.now ≡ part.Script c.in-Script.script = c.in-Script.is in
-    let x = ran_text c.eval_text.result c.in_ok-value-in-Script.value (EndsAt (ways g.O.Outside.goes g.O.Outside.loses) c.args.tree.now c.args.outside.now c.args.place (λ style. script c.in-Script.script) c.eval_text.new.tree c.eval_text.new.outside)
-    c.in_ok-value-in-Script.ensures.text c.eval_text.ensures.runs in
-    λ q style at. Steps.lone_script style c.args.part.now c.in-Script.script c.known_short.result x.0 is x.2 (x.3 ∙ sym c.known_short.ensures.same)
-    (ap fits c.known_short.ensures.same ∙ c.known_short.ensures.short) (x.1 q style (record { names = at.names; style_is = at.style_is }))
-
-pub operands::eval_lone_operand-returns-in_ok-clone-in-Literal-clause-here : goal.operands::eval_lone_operand-returns-in_ok-clone-in-Literal-clause-here
-operands::eval_lone_operand-returns-in_ok-clone-in-Literal-clause-here g t c = unmoved c.within.result c.args.tree.now c.args.place
-
-pub operands::eval_lone_operand-returns-in-Variable-clause-here : goal.operands::eval_lone_operand-returns-in-Variable-clause-here
-operands::eval_lone_operand-returns-in-Variable-clause-here g t c = unmoved c.read_variable.result c.args.tree.now c.args.place
-
-pub operands::eval_lone_operand-returns-in_err-value-in-Script-clause-here : goal.operands::eval_lone_operand-returns-in_err-value-in-Script-clause-here
-operands::eval_lone_operand-returns-in_err-value-in-Script-clause-here g t c =
-    let p = err_from_is_err_and c.from_residual-in_err-value-in-Script.result c.from_residual-in_err-value-in-Script.ensures.1 in
-    here_passed c.from_residual-in_err-value-in-Script.result c.eval_text.result c.in_err-value-in-Script.field-0.0 p.0 c.args.tree.now c.args.tree.now c.eval_text.new.tree c.args.place p.1 p.2 c.in_err-value-in-Script.ensures.same (here-refl c.args.tree.now c.args.place) c.eval_text.ensures.here
-
-pub operands::eval_lone_operand-returns-in_ok-value-in-Script-clause-here : goal.operands::eval_lone_operand-returns-in_ok-value-in-Script-clause-here
-operands::eval_lone_operand-returns-in_ok-value-in-Script-clause-here g t c = here_text c.eval_text.result c.in_ok-value-in-Script.value c.args.tree.now c.eval_text.new.tree c.args.place c.in_ok-value-in-Script.ensures.text c.eval_text.ensures.here
-
-pub operands::eval_lone_operand-returns-in_err-clone-in-Literal-clause-here : goal.operands::eval_lone_operand-returns-in_err-clone-in-Literal-clause-here
-operands::eval_lone_operand-returns-in_err-clone-in-Literal-clause-here g t c = unmoved c.from_residual.result c.args.tree.now c.args.place
-
-pub operands::eval_lone_operand-returns-in-Element-clause-here : goal.operands::eval_lone_operand-returns-in-Element-clause-here
-operands::eval_lone_operand-returns-in-Element-clause-here g t c = here-refl c.args.tree.now c.args.place
-
-pub operands::eval_lone_operand-returns-in-EndElement-clause-here : goal.operands::eval_lone_operand-returns-in-EndElement-clause-here
-operands::eval_lone_operand-returns-in-EndElement-clause-here g t c = here-refl c.args.tree.now c.args.place
-
-pub operands::substitute_read-returns-in_err-prepared-clause-runs : goal.operands::substitute_read-returns-in_err-prepared-clause-runs
-operands::substitute_read-returns-in_err-prepared-clause-runs g t c =
-    let p = err_from_is_err_and c.from_residual.result c.from_residual.ensures.1 in
-    memory_err c.from_residual.result p.0 _ _ p.1 p.2 (λ q style at. stopped)
-
-pub operands::substitute_read-returns-in_err-prepared-clause-here : goal.operands::substitute_read-returns-in_err-prepared-clause-here
-operands::substitute_read-returns-in_err-prepared-clause-here g t c = unmoved c.from_residual.result c.args.tree.now c.args.place
-
-pub operands::substitute_read-returns-clause-runs : goal.operands::substitute_read-returns-clause-runs
-operands::substitute_read-returns-clause-runs g t c =
-    let same : map seen_part c.as_slice.result.now ≡ c.args.parts.now = ap (map seen_part) c.as_slice.ensures.value ∙ c.in_ok-prepared.ensures in
-    IfRan-more c.substitute.result
-    (EndsFrom (ways g.O.Outside.goes g.O.Outside.loses) c.args.tree.now c.args.outside.now c.args.place (λ style. parts (map seen_part c.as_slice.result.now) [] []) c.substitute.new.tree c.substitute.new.outside)
-    (EndsFrom (ways g.O.Outside.goes g.O.Outside.loses) c.args.tree.now c.args.outside.now c.args.place (λ style. parts c.args.parts.now [] []) c.substitute.new.tree c.substitute.new.outside)
-    (λ e h q style at. at_prog (ap (λ (ps : List Part). parts ps [] []) (sym same)) (h q style at)) c.substitute.ensures.runs
+pub operands::eval_operand-returns-in-None-clause-runs : goal.operands::eval_operand-returns-in-None-clause-runs
+operands::eval_operand-returns-in-None-clause-runs g t c =
+    IfRan-more c.eval_word.result
+    (EndsFrom (ways g.O.Outside.goes g.O.Outside.loses) c.args.tree.now c.args.outside.now c.args.place (λ style. parts (seen_word c.word.result.now).parts [] []) c.eval_word.new.tree c.eval_word.new.outside)
+    (EndsFrom (ways g.O.Outside.goes g.O.Outside.loses) c.args.tree.now c.args.outside.now c.args.place (λ style. parts c.args.operand.now.parts [] []) c.eval_word.new.tree c.eval_word.new.outside)
+    (λ e h q style at. at_prog (ap (λ (w : WordRead). parts w.parts [] []) (sym c.word.ensures)) (h q style at)) c.eval_word.ensures.runs
 
 -- # Expressions, and the commands with conditions
+
+pub expressions::expression-returns-in-Some-clause-runs : goal.expressions::expression-returns-in-Some-clause-runs
+expressions::expression-returns-in-Some-clause-runs g t c = λ q style at text is.
+    let n = stands (tree_of c.args.tree.now q) (tree_there c.args.tree.now q _ at.names) in
+    let same = c.integers-style.ensures ∙ at.style_is in
+    Conditions.computes_kept style text c.args.kept.now is
+    (Conditions.number_at_hand style c.integers-style.result c.args.kept.now.nodes.items c.in-Some.number c.from_int.result same n.1 (c.in-Some.ensures q n.0 at.names n.1) c.from_int.ensures)
 
 pub expressions::expression-returns-in_err-word-clause-runs : goal.expressions::expression-returns-in_err-word-clause-runs
 expressions::expression-returns-in_err-word-clause-runs g t c =
@@ -1407,30 +1349,30 @@ expressions::expression-returns-in_err-word-clause-runs g t c =
 pub expressions::expression-returns-in_err-value-in-Wants-clause-runs : goal.expressions::expression-returns-in_err-value-in-Wants-clause-runs
 expressions::expression-returns-in_err-value-in-Wants-clause-runs g t c =
     let wants : from c.integers-style.result c.args.kept.now.nodes.items c.parts.evaluation.next c.parts.evaluation.values.items
-    ≡ substitute c.in-Wants.word.now (λ v. from c.integers-style.result c.args.kept.now.nodes.items c.next_part.new.evaluation.next (c.next_part.new.evaluation.values.items ++ v ∷ [])) = search rules in
+    ≡ substitute c.in-Wants.operand.now (λ v. from c.integers-style.result c.args.kept.now.nodes.items c.next_part.new.evaluation.next (c.next_part.new.evaluation.values.items ++ v ∷ [])) = search rules in
     let p = err_from_is_err_and c.from_residual-in_err-value-in-Wants.result c.from_residual-in_err-value-in-Wants.ensures.1 in
     ran_err c.from_residual-in_err-value-in-Wants.result c.in_err-value-in-Wants.field-0.0 p.0 _ _ _ p.1 p.2
-    (stays_of c.eval_operand.result c.in_err-value-in-Wants.field-0.0 (EndsFrom (ways g.O.Outside.goes g.O.Outside.loses) c.parts.tree c.parts.outside c.args.place (λ style. parts c.in-Wants.word.now.parts [] []) c.eval_operand.new.tree c.eval_operand.new.outside)
+    (stays_of c.eval_operand.result c.in_err-value-in-Wants.field-0.0 (EndsFrom (ways g.O.Outside.goes g.O.Outside.loses) c.parts.tree c.parts.outside c.args.place (λ style. parts c.in-Wants.operand.now.parts [] []) c.eval_operand.new.tree c.eval_operand.new.outside)
     c.in_err-value-in-Wants.ensures.same c.eval_operand.ensures.runs c.in_err-value-in-Wants.ensures.stays)
     (λ e h q style at text is.
     let same = c.integers-style.ensures ∙ at.style_is in
     c.parts.invariant.leads q style at text is _ _ _
-    (Conditions.wants_part style c.integers-style.result c.args.kept.now.nodes.items c.parts.evaluation.next c.next_part.new.evaluation.next c.parts.evaluation.values.items c.next_part.new.evaluation.values.items c.in-Wants.word.now same wants
-    (Conditions.part_stays style c.in-Wants.word.now (λ v. from style c.args.kept.now.nodes.items c.next_part.new.evaluation.next (c.next_part.new.evaluation.values.items ++ v ∷ [])) (settles style) e h.1 (h.0 q style (still_at c.args.tree.now c.parts.tree c.args.place q style c.parts.invariant.here at)))))
+    (Conditions.wants_part style c.integers-style.result c.args.kept.now.nodes.items c.parts.evaluation.next c.next_part.new.evaluation.next c.parts.evaluation.values.items c.next_part.new.evaluation.values.items c.in-Wants.operand.now same wants
+    (Conditions.part_stays style c.in-Wants.operand.now (λ v. from style c.args.kept.now.nodes.items c.next_part.new.evaluation.next (c.next_part.new.evaluation.values.items ++ v ∷ [])) (settles style) e h.1 (h.0 q style (still_at c.args.tree.now c.parts.tree c.args.place q style c.parts.invariant.here at)))))
 
 pub expressions::expression-returns-in_err-supply-in-Wants-clause-runs : goal.expressions::expression-returns-in_err-supply-in-Wants-clause-runs
 expressions::expression-returns-in_err-supply-in-Wants-clause-runs g t c =
     let wants : from c.integers-style.result c.args.kept.now.nodes.items c.parts.evaluation.next c.parts.evaluation.values.items
-    ≡ substitute c.in-Wants.word.now (λ v. from c.integers-style.result c.args.kept.now.nodes.items c.next_part.new.evaluation.next (c.next_part.new.evaluation.values.items ++ v ∷ [])) = search rules in
-    let x = ran_text c.eval_operand.result c.in_ok-value-in-Wants.value (EndsFrom (ways g.O.Outside.goes g.O.Outside.loses) c.parts.tree c.parts.outside c.args.place (λ style. parts c.in-Wants.word.now.parts [] []) c.eval_operand.new.tree c.eval_operand.new.outside)
+    ≡ substitute c.in-Wants.operand.now (λ v. from c.integers-style.result c.args.kept.now.nodes.items c.next_part.new.evaluation.next (c.next_part.new.evaluation.values.items ++ v ∷ [])) = search rules in
+    let x = ran_text c.eval_operand.result c.in_ok-value-in-Wants.value (EndsFrom (ways g.O.Outside.goes g.O.Outside.loses) c.parts.tree c.parts.outside c.args.place (λ style. parts c.in-Wants.operand.now.parts [] []) c.eval_operand.new.tree c.eval_operand.new.outside)
     c.in_ok-value-in-Wants.ensures.text c.eval_operand.ensures.runs in
     let p = err_from_is_err_and c.from_residual-in_err-supply-in-Wants.result c.from_residual-in_err-supply-in-Wants.ensures.1 in
     memory_err c.from_residual-in_err-supply-in-Wants.result p.0 _ _ p.1 p.2
     (λ q style at text is.
     let same = c.integers-style.ensures ∙ at.style_is in
     c.parts.invariant.leads q style at text is _ _ _
-    (Conditions.wants_part style c.integers-style.result c.args.kept.now.nodes.items c.parts.evaluation.next c.next_part.new.evaluation.next c.parts.evaluation.values.items c.next_part.new.evaluation.values.items c.in-Wants.word.now same wants
-    (Conditions.part_goes style c.in-Wants.word.now (λ v. from style c.args.kept.now.nodes.items c.next_part.new.evaluation.next (c.next_part.new.evaluation.values.items ++ v ∷ [])) (settles style) x.0 c.in_ok-value-in-Wants.value x.2 x.3 (x.1 q style (still_at c.args.tree.now c.parts.tree c.args.place q style c.parts.invariant.here at))
+    (Conditions.wants_part style c.integers-style.result c.args.kept.now.nodes.items c.parts.evaluation.next c.next_part.new.evaluation.next c.parts.evaluation.values.items c.next_part.new.evaluation.values.items c.in-Wants.operand.now same wants
+    (Conditions.part_goes style c.in-Wants.operand.now (λ v. from style c.args.kept.now.nodes.items c.next_part.new.evaluation.next (c.next_part.new.evaluation.values.items ++ v ∷ [])) (settles style) x.0 c.in_ok-value-in-Wants.value x.2 x.3 (x.1 q style (still_at c.args.tree.now c.parts.tree c.args.place q style c.parts.invariant.here at))
     stopped)))
 
 pub expressions::expression-returns-in-Done-clause-runs : goal.expressions::expression-returns-in-Done-clause-runs
@@ -1446,15 +1388,15 @@ expressions::expression-returns-in-Done-clause-runs g t c =
 pub expressions::expression-parts-preserved : goal.expressions::expression-parts-preserved
 expressions::expression-parts-preserved g t c =
     let wants : from c.integers-style.result c.args.kept.now.nodes.items c.parts.evaluation.next c.parts.evaluation.values.items
-    ≡ substitute c.in-Wants.word.now (λ v. from c.integers-style.result c.args.kept.now.nodes.items c.next_part.new.evaluation.next (c.next_part.new.evaluation.values.items ++ v ∷ [])) = search rules in
-    let x = ran_text c.eval_operand.result c.in_ok-value-in-Wants.value (EndsFrom (ways g.O.Outside.goes g.O.Outside.loses) c.parts.tree c.parts.outside c.args.place (λ style. parts c.in-Wants.word.now.parts [] []) c.eval_operand.new.tree c.eval_operand.new.outside)
+    ≡ substitute c.in-Wants.operand.now (λ v. from c.integers-style.result c.args.kept.now.nodes.items c.next_part.new.evaluation.next (c.next_part.new.evaluation.values.items ++ v ∷ [])) = search rules in
+    let x = ran_text c.eval_operand.result c.in_ok-value-in-Wants.value (EndsFrom (ways g.O.Outside.goes g.O.Outside.loses) c.parts.tree c.parts.outside c.args.place (λ style. parts c.in-Wants.operand.now.parts [] []) c.eval_operand.new.tree c.eval_operand.new.outside)
     c.in_ok-value-in-Wants.ensures.text c.eval_operand.ensures.runs in
     record {
       leads = λ q style at text is V z r run.
           let same = c.integers-style.ensures ∙ at.style_is in
           c.parts.invariant.leads q style at text is _ _ _
-          (Conditions.wants_part style c.integers-style.result c.args.kept.now.nodes.items c.parts.evaluation.next c.next_part.new.evaluation.next c.parts.evaluation.values.items c.next_part.new.evaluation.values.items c.in-Wants.word.now same wants
-          (Conditions.part_goes style c.in-Wants.word.now (λ v. from style c.args.kept.now.nodes.items c.next_part.new.evaluation.next (c.next_part.new.evaluation.values.items ++ v ∷ [])) (settles style) x.0 c.in_ok-value-in-Wants.value x.2 x.3 (x.1 q style (still_at c.args.tree.now c.parts.tree c.args.place q style c.parts.invariant.here at))
+          (Conditions.wants_part style c.integers-style.result c.args.kept.now.nodes.items c.parts.evaluation.next c.next_part.new.evaluation.next c.parts.evaluation.values.items c.next_part.new.evaluation.values.items c.in-Wants.operand.now same wants
+          (Conditions.part_goes style c.in-Wants.operand.now (λ v. from style c.args.kept.now.nodes.items c.next_part.new.evaluation.next (c.next_part.new.evaluation.values.items ++ v ∷ [])) (settles style) x.0 c.in_ok-value-in-Wants.value x.2 x.3 (x.1 q style (still_at c.args.tree.now c.parts.tree c.args.place q style c.parts.invariant.here at))
           (at_prog (λ i. computed (from style c.args.kept.now.nodes.items (sym c.in_ok-supply-in-Wants.ensures.next i) (sym c.in_ok-supply-in-Wants.ensures.values i)) (settles style)) run)));
       here = here-trans c.args.tree.now c.parts.tree c.eval_operand.new.tree c.args.place c.parts.invariant.here (here_text c.eval_operand.result c.in_ok-value-in-Wants.value c.parts.tree c.eval_operand.new.tree c.args.place c.in_ok-value-in-Wants.ensures.text c.eval_operand.ensures.here);
       keeps = keeps-trans c.parts.invariant.keeps c.eval_operand.ensures.keeps;
@@ -1575,16 +1517,16 @@ pub expressions::if_first-returns-then-branch-clause-runs : goal.expressions::if
 expressions::if_first-returns-then-branch-clause-runs g t c =
     let item = item_on c.deref-branch-items.result.now c.tests.branch-index c.branch-item.result c.tests-test.true c.branch-item.is in
     let holds = subst (TestGoes (ways g.O.Outside.goes g.O.Outside.loses) c.tests.tree c.tests.outside c.args.place c.deref.result.now c.condition.new.tree c.condition.new.outside) c.if-branch.true c.in_ok-condition.ensures.runs in
-    IfRan-more c.eval_value.result
-    (EndsAt (ways g.O.Outside.goes g.O.Outside.loses) c.condition.new.tree c.condition.new.outside c.args.place (λ style. script c.in_ok-body.body) c.eval_value.new.tree c.eval_value.new.outside)
-    (EndsFrom (ways g.O.Outside.goes g.O.Outside.loses) c.args.tree.now c.args.outside.now c.args.place (λ style. if_first style c.args.args.now) c.eval_value.new.tree c.eval_value.new.outside)
+    IfRan-more c.eval_value-ended.result
+    (EndsAt (ways g.O.Outside.goes g.O.Outside.loses) c.condition.new.tree c.condition.new.outside c.args.place (λ style. script c.in_ok-body.body) c.eval_value-ended.new.tree c.eval_value-ended.new.outside)
+    (EndsFrom (ways g.O.Outside.goes g.O.Outside.loses) c.args.tree.now c.args.outside.now c.args.place (λ style. if_first style c.args.args.now) c.eval_value-ended.new.tree c.eval_value-ended.new.outside)
     (λ e h q style at.
     let here = still_at c.args.tree.now c.tests.tree c.args.place q style c.tests.invariant.here at in
     let after = still_at _ _ c.args.place q style c.in_ok-condition.ensures.here here in
     let same = c.integers.ensures ∙ here.style_is in
     c.tests.invariant.leads q style at _ _ _ (at_prog (ap (λ (bs : List Branch). first_true style (tests_of bs) (option_copied c.in-Some.branches.last)) item)
     (holds q style here c.branch-item.result.test.now (Conditions.kept_behind c.integers.result style c.branch-item.result.test.now c.in_ok-test.test.value c.deref.result.now c.deref.ensures same c.in_ok-test.ensures.read) _ _ _ _
-    (goes_done {i = Script c.branch-item.result.body.now} (at_prog (ap script (sym c.in_ok-body.ensures.cases)) (h q style (record { names = after.names; style_is = after.style_is }))))))) c.eval_value.ensures.runs
+    (goes_done {i = Script c.branch-item.result.body.now} (at_prog (ap script (sym c.in_ok-body.ensures.cases)) (h q style (record { names = after.names; style_is = after.style_is }))))))) c.eval_value-ended.ensures.runs
 
 pub expressions::if_first-tests-preserved : goal.expressions::if_first-tests-preserved
 expressions::if_first-tests-preserved g t c =
@@ -1615,14 +1557,14 @@ expressions::if_first-returns-in_err-body-2-clause-runs g t c =
 pub expressions::if_first-returns-clause-runs : goal.expressions::if_first-returns-clause-runs
 expressions::if_first-returns-clause-runs g t c =
     let none = none_on c.deref-branch-items.result.now c.tests.branch-index c.tests-test.false in
-    IfRan-more c.eval_value-2.result
-    (EndsAt (ways g.O.Outside.goes g.O.Outside.loses) c.tests.tree c.tests.outside c.args.place (λ style. script c.in_ok-body-2.body) c.eval_value-2.new.tree c.eval_value-2.new.outside)
-    (EndsFrom (ways g.O.Outside.goes g.O.Outside.loses) c.args.tree.now c.args.outside.now c.args.place (λ style. if_first style c.args.args.now) c.eval_value-2.new.tree c.eval_value-2.new.outside)
+    IfRan-more c.eval_value-ended-2.result
+    (EndsAt (ways g.O.Outside.goes g.O.Outside.loses) c.tests.tree c.tests.outside c.args.place (λ style. script c.in_ok-body-2.body) c.eval_value-ended-2.new.tree c.eval_value-ended-2.new.outside)
+    (EndsFrom (ways g.O.Outside.goes g.O.Outside.loses) c.args.tree.now c.args.outside.now c.args.place (λ style. if_first style c.args.args.now) c.eval_value-ended-2.new.tree c.eval_value-ended-2.new.outside)
     (λ e h q style at.
     let here = still_at c.args.tree.now c.tests.tree c.args.place q style c.tests.invariant.here at in
     c.tests.invariant.leads q style at _ _ _ (at_prog (ap (λ (bs : List Branch). first_true style (tests_of bs) (option_copied c.in-Some.branches.last)) none)
     (Conditions.last_runs style _ c.in-Some-last.last.now (ap option_copied c.in-Some-last.is)
-    (at_prog (ap script (sym c.in_ok-body-2.ensures.cases)) (h q style (record { names = here.names; style_is = here.style_is })))))) c.eval_value-2.ensures.runs
+    (at_prog (ap script (sym c.in_ok-body-2.ensures.cases)) (h q style (record { names = here.names; style_is = here.style_is })))))) c.eval_value-ended-2.ensures.runs
 
 -- turns
 
@@ -2260,14 +2202,14 @@ expressions::if_first-returns-in_err-condition-clause-keeps g t c = keeps-trans 
 pub expressions::if_first-returns-in_err-body-clause-keeps : goal.expressions::if_first-returns-in_err-body-clause-keeps
 expressions::if_first-returns-in_err-body-clause-keeps g t c = keeps-trans c.tests.invariant.keeps c.condition.ensures.keeps
 
-pub expressions::if_first-eval_value-requires : goal.expressions::if_first-eval_value-requires
-expressions::if_first-eval_value-requires g t c κs within = (search rules, (search rules, let r = still_running c.args.tree.now c.condition.new.tree c.args.place (here-trans c.args.tree.now c.tests.tree c.condition.new.tree c.args.place c.tests.invariant.here c.in_ok-condition.ensures.here) c.requires in (r.0, r.1)))
+pub expressions::if_first-eval_value-ended-requires : goal.expressions::if_first-eval_value-ended-requires
+expressions::if_first-eval_value-ended-requires g t c κs within = (search rules, (search rules, let r = still_running c.args.tree.now c.condition.new.tree c.args.place (here-trans c.args.tree.now c.tests.tree c.condition.new.tree c.args.place c.tests.invariant.here c.in_ok-condition.ensures.here) c.requires in (r.0, r.1)))
 
 pub expressions::if_first-returns-then-branch-clause-keeps : goal.expressions::if_first-returns-then-branch-clause-keeps
-expressions::if_first-returns-then-branch-clause-keeps g t c = keeps-trans c.tests.invariant.keeps (keeps-trans c.condition.ensures.keeps c.eval_value.ensures.keeps)
+expressions::if_first-returns-then-branch-clause-keeps g t c = keeps-trans c.tests.invariant.keeps (keeps-trans c.condition.ensures.keeps c.eval_value-ended.ensures.keeps)
 
 pub expressions::if_first-returns-clause-keeps : goal.expressions::if_first-returns-clause-keeps
-expressions::if_first-returns-clause-keeps g t c = keeps-trans c.tests.invariant.keeps c.eval_value-2.ensures.keeps
+expressions::if_first-returns-clause-keeps g t c = keeps-trans c.tests.invariant.keeps c.eval_value-ended-2.ensures.keeps
 
 pub expressions::while_loop-returns-in_err-turn-clause-keeps : goal.expressions::while_loop-returns-in_err-turn-clause-keeps
 expressions::while_loop-returns-in_err-turn-clause-keeps g t c = keeps-trans c.turns.invariant.keeps c.turn.ensures.keeps
@@ -3149,8 +3091,8 @@ expressions::expression-eval_operand-requires g t c κs within = (search rules, 
 pub expressions::while_loop-turn-requires : goal.expressions::while_loop-turn-requires
 expressions::while_loop-turn-requires g t c κs within = (search rules, (search rules, still_running c.args.tree.now c.turns.tree c.args.place c.turns.invariant.here c.requires))
 
-pub expressions::if_first-eval_value-requires-2 : goal.expressions::if_first-eval_value-requires-2
-expressions::if_first-eval_value-requires-2 g t c κs within = (search rules, (search rules, (c.requires.0, still_named c.args.tree.now c.tests.tree c.args.place c.requires.0 c.tests.invariant.here c.requires.1)))
+pub expressions::if_first-eval_value-ended-requires-2 : goal.expressions::if_first-eval_value-ended-requires-2
+expressions::if_first-eval_value-ended-requires-2 g t c κs within = (search rules, (search rules, (c.requires.0, still_named c.args.tree.now c.tests.tree c.args.place c.requires.0 c.tests.invariant.here c.requires.1)))
 
 pub evaluation::eval_commands-returns-in_err-last-clause-here : goal.evaluation::eval_commands-returns-in_err-last-clause-here
 evaluation::eval_commands-returns-in_err-last-clause-here g t c =
@@ -3311,7 +3253,7 @@ pub expressions::if_first-returns-in_err-body-clause-here : goal.expressions::if
 expressions::if_first-returns-in_err-body-clause-here g t c = on_completion c.from_residual-in_err-body.result (IsHere c.args.tree.now c.condition.new.tree c.args.place) (here-trans c.args.tree.now c.tests.tree c.condition.new.tree c.args.place c.tests.invariant.here c.in_ok-condition.ensures.here)
 
 pub expressions::if_first-returns-then-branch-clause-here : goal.expressions::if_first-returns-then-branch-clause-here
-expressions::if_first-returns-then-branch-clause-here g t c = here_then c.eval_value.result c.args.tree.now c.condition.new.tree c.eval_value.new.tree c.args.place (here-trans c.args.tree.now c.tests.tree c.condition.new.tree c.args.place c.tests.invariant.here c.in_ok-condition.ensures.here) c.eval_value.ensures.here
+expressions::if_first-returns-then-branch-clause-here g t c = here_then c.eval_value-ended.result c.args.tree.now c.condition.new.tree c.eval_value-ended.new.tree c.args.place (here-trans c.args.tree.now c.tests.tree c.condition.new.tree c.args.place c.tests.invariant.here c.in_ok-condition.ensures.here) c.eval_value-ended.ensures.here
 
 pub expressions::if_first-returns-in_default-last-clause-here : goal.expressions::if_first-returns-in_default-last-clause-here
 expressions::if_first-returns-in_default-last-clause-here g t c = c.tests.invariant.here
@@ -3320,7 +3262,7 @@ pub expressions::if_first-returns-in_err-body-2-clause-here : goal.expressions::
 expressions::if_first-returns-in_err-body-2-clause-here g t c = on_completion c.from_residual-in_err-body-2.result (IsHere c.args.tree.now c.tests.tree c.args.place) c.tests.invariant.here
 
 pub expressions::if_first-returns-clause-here : goal.expressions::if_first-returns-clause-here
-expressions::if_first-returns-clause-here g t c = here_then c.eval_value-2.result c.args.tree.now c.tests.tree c.eval_value-2.new.tree c.args.place c.tests.invariant.here c.eval_value-2.ensures.here
+expressions::if_first-returns-clause-here g t c = here_then c.eval_value-ended-2.result c.args.tree.now c.tests.tree c.eval_value-ended-2.new.tree c.args.place c.tests.invariant.here c.eval_value-ended-2.ensures.here
 
 pub expressions::turn-returns-in_err-condition-clause-here : goal.expressions::turn-returns-in_err-condition-clause-here
 expressions::turn-returns-in_err-condition-clause-here g t c =

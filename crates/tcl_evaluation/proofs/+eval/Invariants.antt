@@ -154,12 +154,6 @@ invariant-evaluation::substitute-parts g l = record {
 
 -- Expressions, and the commands with conditions.
 
-abbrev pub decreases-operands::eval_lone_operand : goal.decreases-operands::eval_lone_operand
-decreases-operands::eval_lone_operand g l = 32032 * g.O.Outside.entries_left l.outside.now + 32 * room (tree_of l.tree.now) + 2
-
-abbrev pub decreases-operands::substitute_read : goal.decreases-operands::substitute_read
-decreases-operands::substitute_read g l = 32032 * g.O.Outside.entries_left l.outside.now + 32 * room (tree_of l.tree.now) + 4
-
 abbrev pub decreases-operands::eval_operand : goal.decreases-operands::eval_operand
 decreases-operands::eval_operand g l = 32032 * g.O.Outside.entries_left l.outside.now + 32 * room (tree_of l.tree.now) + 5
 

@@ -1,16 +1,47 @@
 //! The commands of one interpreter.
 ghost use Rattle.std.specs.Prelude.{◌≡◌, ◌++◌, ◌∷◌, [], List, ℕ, false, IfErr, OnOk, OnErr, IsSome};
-ghost use Rattle.std.specs.Prelude.{Some};
+ghost use Rattle.std.specs.Prelude.{IfSome, Some};
+ghost use Rattle.std.specs.Map.{lookup};
 ghost use Rattle.std.specs.Option.{option_copied, option_and_then};
+ghost use Rattle.std.specs.Str.{bytes_eq};
 
 use crate::tree::{Place, Tree};
 use std::alloc::Global;
 use tcl_interpreter::alias::Alias;
-use tcl_interpreter::command::{Command, is_child};
+use tcl_interpreter::command::{Command, Commands, is_child};
 use tcl_interpreter::procedure::Procedure;
 use tcl_interpreter::refusal::TreeError;
 use tcl_text::text::Text;
 use tcl_value::value::Value;
+
+/// The command at a place, where that has the name.
+fn standing<'a>(commands: &'a Commands, place: usize, name: &Text) -> Option<&'a Command>
+    ensures { IfSome result
+        (λ command. lookup (bytes_eq name.now) commands.now.entries ≡ Some command.now) }
+{
+    let (key, command) = commands.get_index(place)?;
+    if key == name {
+        return Some(command);
+    }
+    None
+}
+
+/// What a name stands for, in less time where it stands at the place that the hint is. Where it is
+/// found elsewhere, the hint is that place from now on.
+fn found_near<'a>(commands: &'a Commands, name: &Text, hint: &mut usize) -> Option<&'a Command>
+    ensures { option_copied result ≡ lookup (bytes_eq name.now) commands.now.entries }
+{
+    if let Some(command) = standing(commands, *hint, name) {
+        return Some(command);
+    }
+    match commands.get_full(name) {
+        Some((place, _, command)) => {
+            *hint = place;
+            Some(command)
+        }
+        None => None,
+    }
+}
 
 impl Tree {
     ghost use Rattle.tcl_interpreter.specs.Commands.{straight, way_between, way_past};
@@ -31,6 +62,18 @@ impl Tree {
     {
         let node = self.nodes.get(place.key)?;
         node.state.commands.get(name)
+    }
+
+    /// The same, in less time where the name stands at the place among the commands that the hint
+    /// is. The hint may be any number, since the name that stands there is compared; where the name
+    /// is found elsewhere, the hint is that place from now on. This takes no memory.
+    pub fn command_near(&self, place: Place, name: &Text, hint: &mut usize) -> Option<&Command>
+        ensures { (p : List (List ℕ)) → Names self.now place p →
+            option_copied result ≡ option_and_then
+            (λ n. command_in n.own name.now) (tree_of self.now p) }
+    {
+        let node = self.nodes.get(place.key)?;
+        found_near(&node.state.commands, name, hint)
     }
 
     /// What a name stands for among the hidden commands of the interpreter that the place names.

@@ -13,16 +13,16 @@ use Rattle.tcl_calls.proofs.words.close_element.Goals as goal
 pub returns-in_err-value-clause-refused : goal.returns-in_err-value-clause-refused
 returns-in_err-value-clause-refused c =
     let same : opens c.args.elements.now.items ≡ open_of c.in-Some.element ∷ opens c.pop.new.self.items = ap opens c.in-Some.ensures.items ∙ opens-push c.pop.new.self.items c.in-Some.element in
-    let written : c.in_ok-written.written ≡ element_text c.in-Some.element.name (string_bytes c.args.text.now) = search rules in
+    let written : c.new-variable.result ≡ element_text c.in-Some.element.name (string_bytes c.args.text.now) = search rules in
     let p = err_from_is_err_and c.from_residual-in_err-value.result c.from_residual-in_err-value.ensures.1 in
     at_err c.from_residual-in_err-value.result c.in_err-value.field-0.0 p.0 _ _ p.1 p.2
-    (Interrupts-at c.in_err-value.field-0.0 c.args.tree.now c.args.place (λ n e. IsFailure frame_message (read n.own.chain.frames c.in_ok-written.written) e) c.in_err-value.ensures.read)
+    (Interrupts-at c.in_err-value.field-0.0 c.args.tree.now c.args.place (λ n e. IsFailure frame_message (read n.own.chain.frames c.new-variable.result) e) c.in_err-value.ensures.read)
     (λ e f q n at there. closed_by n _ _ _ _ e same (inl (rw written at f q n at there)))
 
 pub returns-in_err-append_value-clause-refused : goal.returns-in_err-append_value-clause-refused
 returns-in_err-append_value-clause-refused c =
     let same : opens c.args.elements.now.items ≡ open_of c.in-Some.element ∷ opens c.pop.new.self.items = ap opens c.in-Some.ensures.items ∙ opens-push c.pop.new.self.items c.in-Some.element in
-    let written : c.in_ok-written.written ≡ element_text c.in-Some.element.name (string_bytes c.args.text.now) = search rules in
+    let written : c.new-variable.result ≡ element_text c.in-Some.element.name (string_bytes c.args.text.now) = search rules in
     let p = err_from_is_err_and c.from_residual-in_err-append_value.result c.from_residual-in_err-append_value.ensures.1 in
     at_err c.from_residual-in_err-append_value.result c.in_err-append_value.field-0.0 p.0 _ _ p.1 p.2 c.in_err-append_value.ensures.refused
     (λ e f q n at there. closed_by n _ _ _ _ e same (inr (at_ok _ c.in_ok-value.value _ (rw written at c.in_ok-value.ensures.read q n at there) f)))

@@ -7,5 +7,6 @@ use Rattle.tcl_commands.proofs.changing.change_named.Goals as goal
 
 pub returns-clause-acts : goal.returns-clause-acts
 returns-clause-acts c =
-    subst (λ (x : List ℕ). Acts c.args.tree.now c.args.place (λ style. look (λ n. finishes n.own (changed c.args.makes n.own.chain x (altered c.args.change)))) c.change_variable.new.tree c.change_variable.result)
-    c.in_ok-name.ensures c.change_variable.ensures.acts
+    let made = c.change_variable-changed in
+    subst (λ (x : List ℕ). Acts c.args.tree.now c.args.place (λ style. look (λ n. finishes n.own (changed c.args.makes n.own.chain x (altered c.args.change)))) made.new.tree made.result)
+    c.in_ok-name.ensures made.ensures.acts

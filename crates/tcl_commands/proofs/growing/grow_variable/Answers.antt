@@ -19,11 +19,11 @@ unreachable-requires c =
 
 pub returns-clause-acts : goal.returns-clause-acts
 returns-clause-acts c =
-    grow_acts c.args.tree.now (c.frames_of.follows.lender c.grow.new.frames) c.args.place c.in-Some.frames.now c.grow.new.frames (first_of c.args.growth) c.args.name.now (grown_by c.args.growth c.args.more.now) c.grow.result
-    (λ p at. c.frames_of.follows.holds c.grow.new.frames (search rules) p at)
-    (λ p n at there. same_Some _ _ (c.in-Some.ensures.value p at ∙ ap (option_map (λ (m : Node Own). m.own.chain)) there)) c.grow.ensures
+    grow_acts c.args.tree.now (c.frames_of.follows.lender c.grow_near.new.frames) c.args.place c.in-Some.frames.now c.grow_near.new.frames (first_of c.args.growth) c.args.name.now (grown_by c.args.growth c.args.more.now) c.grow_near.result
+    (λ p at. c.frames_of.follows.holds c.grow_near.new.frames (search rules) p at)
+    (λ p n at there. same_Some _ _ (c.in-Some.ensures.value p at ∙ ap (option_map (λ (m : Node Own). m.own.chain)) there)) c.grow_near.ensures
 
 pub returns-clause-level : goal.returns-clause-level
 returns-clause-level c =
     let p = c.requires.0 in
-    lent_level c.args.tree.now (c.frames_of.follows.lender c.grow.new.frames) c.args.place p c.grow.new.frames c.requires.1 (c.frames_of.follows.holds c.grow.new.frames (search rules) p c.requires.1)
+    lent_level c.args.tree.now (c.frames_of.follows.lender c.grow_near.new.frames) c.args.place p c.grow_near.new.frames c.requires.1 (c.frames_of.follows.holds c.grow_near.new.frames (search rules) p c.requires.1)

@@ -8,8 +8,8 @@ pub returns-in_err-set_variable-clause-acts : goal.returns-in_err-set_variable-c
 returns-in_err-set_variable-clause-acts c =
     let r = c.from_residual-in_err-set_variable in
     let p = err_from_is_err_and r.result r.ensures.1 in
-    set_refused c.args.tree.now c.set_variable.new.tree c.args.place c.in_ok-name.name c.args.variable.now c.args.value (either c.args.is_there (codes "1") (codes "0")) c.in_err-set_variable.field-0.0 p.0 r.result c.in_ok-name.ensures p.1 p.2 c.in_err-set_variable.ensures.set
+    set_refused c.args.tree.now c.set_variable.new.tree c.args.place c.args.variable.now c.args.value (either c.args.is_there (codes "1") (codes "0")) c.in_err-set_variable.field-0.0 p.0 r.result p.1 p.2 c.in_err-set_variable.ensures.set
 
 pub returns-clause-acts : goal.returns-clause-acts
 returns-clause-acts c =
-    set_told c.args.tree.now c.set_variable.new.tree c.args.place c.in_ok-name.name c.args.variable.now c.args.value c.truth_value.result (either c.args.is_there (codes "1") (codes "0")) c.in_ok-name.ensures c.truth_value.ensures c.in_ok-set_variable.ensures.set
+    set_told c.args.tree.now c.set_variable.new.tree c.args.place c.args.variable.now c.args.value c.truth_value.result (either c.args.is_there (codes "1") (codes "0")) c.truth_value.ensures c.in_ok-set_variable.ensures.set

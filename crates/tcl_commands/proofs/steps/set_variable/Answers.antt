@@ -3,5 +3,5 @@ use Rattle.tcl_commands.proofs.steps.set_variable.Goals as goal
 
 pub returns-clause-set : goal.returns-clause-set
 returns-clause-set c =
-    let done = c.write_variable.ensures in
-    set_steps c.args.tree.now c.write_variable.new.tree c.args.place c.args.name.now c.args.value c.write_variable.result done.level done.written done.refused done.unchanged
+    let done = c.write_by_word.ensures in
+    set_steps c.args.tree.now c.write_by_word.new.tree c.args.place c.args.name.now c.args.value c.write_by_word.result done.level done.written done.refused done.unchanged

@@ -3,6 +3,7 @@ use Rattle.std.specs.Prelude.{is_some}
 use Rattle.std.specs.Str.{bytes_eq}
 use Rattle.std.specs.Map.{keys_of, lookup}
 use Rattle.std.proofs.lemmas.Option.{same_Some}
+use Rattle.std.proofs.lemmas.Result.{err_from_is_err_and}
 use Rattle.slab.specs.Slab.{get}
 use Rattle.tcl_core.specs.Programs.{either}
 use Rattle.tcl_interpreter.specs.Own.{new_own}
@@ -127,3 +128,8 @@ pub returns-in_err-make_room-clause-held : goal.returns-in_err-make_room-clause-
 returns-in_err-make_room-clause-held c =
     let same : (k : ℕ) → held_in (get c.make_room.new.nodes) k ≡ held_in (get c.args.self.now.nodes) k = held_kept _ _ c.make_room.ensures.same in
     on_err _ same
+
+pub returns-in_err-make_room-clause-refused : goal.returns-in_err-make_room-clause-refused
+returns-in_err-make_room-clause-refused c =
+    let p = err_from_is_err_and c.from_residual-in_err-make_room.result c.from_residual-in_err-make_room.ensures.1 in
+    rw (p.1, p.2) (λ q at. tt)

@@ -1,0 +1,32 @@
+-- Words in which no two colons stand side by side.
+use Rattle.std.proofs.Common.{◌==◌, ◌||◌, ◌≡◌, ℕ, Bool, true, false, if◌then◌else◌, [], ◌∷◌, Some, None, cond, refl, ap, ◌∙◌, ◌&&◌}
+use Rattle.tcl_core.specs.Paths.{Text}
+use Rattle.tcl_language.specs.Naming.{of_global, command_name}
+use Rattle.tcl_variables.specs.Names.{has_colons, after_colons, after_colon, after_colon_in, colons_after}
+
+-- the second of two bytes, the first of which is a colon
+second : (c : ℕ) (r : Text) → ((c == 58) || colons_after (c == 58) r) ≡ false → after_colon (c ∷ r) ≡ None
+unfolding after_colon
+second c r h = by (c == 58) h
+  where
+    by : (t : Bool) → (t || colons_after t r) ≡ false → (if t then Some r else None) ≡ None
+    by true h = absurd (cc)
+    by false h = refl
+
+none_leading : (x : Text) → has_colons x ≡ false → after_colons x ≡ None
+unfolding after_colons after_colon colons_after
+none_leading [] h = refl
+none_leading (b ∷ []) h = by (b == 58)
+  where
+    by : (t : Bool) → after_colon_in (if t then Some [] else None) ≡ None
+    by true = refl
+    by false = refl
+none_leading (b ∷ c ∷ r) h = by (b == 58) h
+  where
+    by : (t : Bool) → ((t && (c == 58)) || colons_after (c == 58) r) ≡ false → after_colon_in (if t then Some (c ∷ r) else None) ≡ None
+    by true h = second c r h
+    by false h = refl
+
+-- such a word is the name by which its command is kept
+pub kept_whole : (x : Text) → has_colons x ≡ false → command_name x ≡ Some x
+kept_whole x h = ap (of_global x) (none_leading x h) ∙ ap (λ b. cond b None (Some x)) h
