@@ -1336,10 +1336,10 @@ expressions::expression-returns-in-Some-clause-runs g t c = λ q style at text i
     Conditions.computes_kept style text c.args.kept.now is
     (Conditions.number_at_hand style c.integers-style.result c.args.kept.now.nodes.items c.in-Some.number c.from_int.result same n.1 (c.in-Some.ensures q n.0 at.names n.1) c.from_int.ensures)
 
-pub expressions::expression-returns-in_err-word-clause-runs : goal.expressions::expression-returns-in_err-word-clause-runs
-expressions::expression-returns-in_err-word-clause-runs g t c =
+pub expressions::expression-returns-in_err-operand-clause-runs : goal.expressions::expression-returns-in_err-operand-clause-runs
+expressions::expression-returns-in_err-operand-clause-runs g t c =
     let p = err_from_is_err_and c.from_residual.result c.from_residual.ensures.1 in
-    fails_err c.from_residual.result c.in_err-word.field-0.0 p.0 _ _ _ p.1 p.2 c.in_err-word.ensures.gives
+    fails_err c.from_residual.result c.in_err-operand.field-0.0 p.0 _ _ _ p.1 p.2 c.in_err-operand.ensures.gives
     (λ e h q style at text is.
     let same = c.integers-style.ensures ∙ at.style_is in
     c.parts.invariant.leads q style at text is _ _ _
@@ -3219,8 +3219,8 @@ crossing::invoke_at-returns-in_err-set_aside-clause-keeps g t c = level_keeps _ 
 pub commands::call_procedure-returns-in_err-enter_frame-clause-keeps : goal.commands::call_procedure-returns-in_err-enter_frame-clause-keeps
 commands::call_procedure-returns-in_err-enter_frame-clause-keeps g t c = level_keeps _ c.enter_frame.ensures.level
 
-pub expressions::expression-returns-in_err-word-clause-here : goal.expressions::expression-returns-in_err-word-clause-here
-expressions::expression-returns-in_err-word-clause-here g t c = on_completion c.from_residual.result (IsHere c.args.tree.now c.parts.tree c.args.place) c.parts.invariant.here
+pub expressions::expression-returns-in_err-operand-clause-here : goal.expressions::expression-returns-in_err-operand-clause-here
+expressions::expression-returns-in_err-operand-clause-here g t c = on_completion c.from_residual.result (IsHere c.args.tree.now c.parts.tree c.args.place) c.parts.invariant.here
 
 pub expressions::expression-returns-in_err-value-in-Wants-clause-here : goal.expressions::expression-returns-in_err-value-in-Wants-clause-here
 expressions::expression-returns-in_err-value-in-Wants-clause-here g t c =
