@@ -1,17 +1,18 @@
 -- Step after step.
-use Rattle.std.proofs.Common.{◌≡◌, ◌∙◌, sym, ap, subst, refl, ℕ, ◌+◌, ◌≤◌, ◌<◌, List, [], ◌∷◌, ◌++◌, length, drop, get_or, ℤ, FitsSigned, of_z, w64, nat_eq, not, Option, Some, None, Ok, IfSome, option_to_list}
+use Rattle.std.proofs.Common.{◌≡◌, ◌∙◌, sym, ap, subst, refl, ℕ, ◌+◌, ◌≤◌, ◌<◌, List, [], ◌∷◌, ◌++◌, length, drop, get_or, ℤ, FitsSigned, w64, Bool, true, false, nat_le, arith, Option, Some, None, Result, Ok, Err, IfSome, option_to_list}
 use Rattle.std.specs.Fmt.{signed_decimal}
 use Rattle.tcl_text.specs.declared.integer.Integers.{Integers}
 use Rattle.tcl_parser.specs.Words.{WordRead}
 use Rattle.tcl_parser.specs.declared.script.Part.{Part}
-use Rattle.tcl_parser.specs.declared.script.Part.TheVariants.{Variable}
-use Rattle.tcl_value.specs.Limits.{Bytes}
+use Rattle.tcl_parser.specs.declared.script.Part.TheVariants.{Variable, Literal, Element, EndElement, Script}
+use Rattle.tcl_value.specs.Limits.{Bytes, IsWithin}
+use Rattle.tcl_variables.specs.declared.fault.FrameFault.{FrameFault}
+use Rattle.std.proofs.lemmas.Bool.Decides.{nat_tests}
 use Rattle.tcl_value.specs.Reading.{int_of}
 use Rattle.tcl_value.proofs.Laws.{int_of-number}
 use Rattle.tcl_frames.specs.Places.{Levels}
 use Rattle.tcl_frames.specs.Chain.{read}
 use Rattle.tcl_operators.specs.Apply.{apply_unary, apply_binary}
-use Rattle.tcl_operators.proofs.Truths.{truth_of_number}
 use Rattle.tcl_expr.specs.declared.operator.UnaryOperator.{UnaryOperator}
 use Rattle.tcl_expr.specs.declared.operator.BinaryOperator.{BinaryOperator}
 use Rattle.tcl_expr.specs.declared.token.Leaf.{Leaf}
@@ -20,14 +21,43 @@ use Rattle.tcl_expr.specs.declared.tree.Node.TheVariants as node
 use Rattle.tcl_expression_evaluation.specs.Computations.{Computation, substitute, operand, and_then}
 use Rattle.tcl_expression_evaluation.specs.Steps.{doing, goes, from, top, below}
 use Rattle.tcl_expression_evaluation.proofs.Going.{done_at, done_past}
-use Rattle.tcl_number_expressions.specs.AtHand.{comes_to, given, text_read, variable_value, ReadAs, Brings, IsNumberAtHand, IsTruthAtHand}
+use Rattle.tcl_number_expressions.specs.AtHand.{comes_to, given, text_read, variable_value, short_text, ReadAs, Brings, IsNumberAtHand}
 use Rattle.tcl_number_expressions.proofs.Waiting.{none_wait, pushed, Popped, popped}
 
 -- ## Steps
 
-pub variable_at : (frames : Levels) (word : WordRead) (name text : Bytes) (next : Bytes → Computation) → word.parts ≡ Variable name ∷ [] → read frames name ≡ Ok text → comes_to frames (substitute word next) ≡ comes_to frames (next text)
-variable_at frames word name text next is holds =
+is_short : (text : Bytes) → IsWithin text → nat_le (length text) 16777216 ≡ true
+is_short text h = grind (arith, nat_tests)
+
+pub variable_at : (frames : Levels) (word : WordRead) (name text : Bytes) (next : Bytes → Computation) → word.parts ≡ Variable name ∷ [] → read frames name ≡ Ok text → IsWithin text → comes_to frames (substitute word next) ≡ comes_to frames (next text)
+variable_at frames word name text next is holds short =
     ap (λ parts. given (variable_value frames parts) (λ t. comes_to frames (next t))) is ∙ ap (λ r. given (text_read r) (λ t. comes_to frames (next t))) holds
+    ∙ ap (λ b. given (short_text b text) (λ t. comes_to frames (next t))) (is_short text short)
+
+-- what a variable's value leads to, taken apart
+pub record Leads (frames : Levels) (parts : List Part) (next : Bytes → Option Bytes) (text : Bytes) : Type 0 where
+  pub name : Bytes
+  pub value : Bytes
+  pub is : parts ≡ Variable name ∷ []
+  pub holds : read frames name ≡ Ok value
+  pub short : nat_le (length value) 16777216 ≡ true
+  pub on : next value ≡ Some text
+
+pub leads : (frames : Levels) (parts : List Part) (next : Bytes → Option Bytes) (text : Bytes) → given (variable_value frames parts) next ≡ Some text → Leads frames parts next text
+leads frames [] next text h = absurd (cc)
+leads frames (Variable name ∷ []) next text h = by (read frames name) refl h
+  where
+    found : (value : Bytes) (short : Bool) → read frames name ≡ Ok value → nat_le (length value) 16777216 ≡ short → given (short_text short value) next ≡ Some text → Leads frames (Variable name ∷ []) next text
+    found value true e f k = record { name = name; value = value; is = refl; holds = e; short = f; on = k }
+    found value false e f k = absurd (cc)
+    by : (r : Result Bytes FrameFault) → read frames name ≡ r → given (text_read r) next ≡ Some text → Leads frames (Variable name ∷ []) next text
+    by (Ok value) e k = found value (nat_le (length value) 16777216) e refl k
+    by (Err fault) e k = absurd (cc)
+leads frames (Variable name ∷ p ∷ parts) next text h = absurd (cc)
+leads frames (Literal t ∷ parts) next text h = absurd (cc)
+leads frames (Element name ∷ parts) next text h = absurd (cc)
+leads frames (EndElement ∷ parts) next text h = absurd (cc)
+leads frames (Script t ∷ parts) next text h = absurd (cc)
 
 brought : (frames : Levels) (style : Integers) (x : Leaf) (texts : List Bytes) (numbers : List ℤ) (text : Bytes) (n : ℤ) → ReadAs style texts numbers →
     ((next : Bytes → Computation) → comes_to frames (operand x next) ≡ comes_to frames (next text)) → int_of style text ≡ Ok n → Brings frames style (node.Operand x) texts numbers n
@@ -96,7 +126,3 @@ end frames style code i numbers left x u past is = let p = popped style u.texts 
 pub ends : (r : Option ℤ) (frames : Levels) (style : Integers) (code : List Node) (i : ℕ) (numbers left : List ℤ) → UnderWay frames style code i numbers → length code ≤ i → numbers ≡ left ++ option_to_list r → IfSome r (λ n. IsNumberAtHand frames style code n)
 ends (Some n) frames style code i numbers left u past is = end frames style code i numbers left n u past is
 ends None frames style code i numbers left u past is = tt
-
--- the truth of a number
-pub truth_at : (frames : Levels) (style : Integers) (code : List Node) (n : ℤ) → FitsSigned w64 n → IsNumberAtHand frames style code n → IsTruthAtHand frames style code (not (nat_eq (of_z w64 n) 0))
-truth_at frames style code n fits h = (h.0, h.1, truth_of_number style h.0 n fits h.2)

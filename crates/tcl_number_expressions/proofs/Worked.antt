@@ -1,5 +1,5 @@
 -- Worked examples.
-use Rattle.std.proofs.Common.{◌≡◌, ◌∙◌, ap, refl, List, [], ◌∷◌, Err, None}
+use Rattle.std.proofs.Common.{◌≡◌, ◌∙◌, ap, refl, List, [], ◌∷◌, Err, None, arith}
 use Rattle.tcl_text.specs.declared.integer.Integers.{Integers}
 use Rattle.tcl_text.specs.declared.integer.Integers.TheVariants.{Tcl8, Tcl9}
 use Rattle.tcl_parser.specs.Words.{WordRead}
@@ -16,8 +16,8 @@ use Rattle.tcl_number_expressions.proofs.UnderWay.{variable_at}
 
 pub one_more_is_42 : OneMoreIs42
 unfolding goes
-one_more_is_42 Tcl8 frames x name is holds = variable_at frames x name (48 ∷ 120 ∷ 50 ∷ 57 ∷ []) _ is holds
-one_more_is_42 Tcl9 frames x name is holds = variable_at frames x name (48 ∷ 120 ∷ 50 ∷ 57 ∷ []) _ is holds
+one_more_is_42 Tcl8 frames x name is holds = variable_at frames x name (48 ∷ 120 ∷ 50 ∷ 57 ∷ []) _ is holds (omega arith)
+one_more_is_42 Tcl9 frames x name is holds = variable_at frames x name (48 ∷ 120 ∷ 50 ∷ 57 ∷ []) _ is holds (omega arith)
 
 none_at : (frames : Levels) (word : WordRead) (name : Bytes) (fault : FrameFault) (next : Bytes → Computation) → word.parts ≡ Variable name ∷ [] → read frames name ≡ Err fault → comes_to frames (substitute word next) ≡ None
 none_at frames word name fault next is fails =

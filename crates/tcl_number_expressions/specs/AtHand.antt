@@ -1,6 +1,6 @@
 -- What an expression comes to where each of its operands is at hand: a literal, or a variable that
 -- holds a value.
-use Rattle.std.specs.Prelude.{◌≡◌, Bool, List, [], ◌∷◌, ◌++◌, ℤ, Option, Some, None, Result, Ok}
+use Rattle.std.specs.Prelude.{◌≡◌, Bool, true, false, nat_le, length, List, [], ◌∷◌, ◌++◌, ℤ, Option, Some, None, Result, Ok}
 use Rattle.std.specs.Prelude.{Err}
 use Rattle.tcl_text.specs.declared.integer.Integers.{Integers}
 use Rattle.tcl_parser.specs.declared.script.Part.{Part}
@@ -10,15 +10,19 @@ use Rattle.tcl_value.specs.Reading.{int_of}
 use Rattle.tcl_variables.specs.declared.fault.FrameFault.{FrameFault}
 use Rattle.tcl_frames.specs.Places.{Levels}
 use Rattle.tcl_frames.specs.Chain.{read}
-use Rattle.tcl_operators.specs.Apply.{truth}
 use Rattle.tcl_expr.specs.declared.tree.Node.{Node}
 use Rattle.tcl_expression_evaluation.specs.Computations.{Computation, value, refused, substitute}
 use Rattle.tcl_expression_evaluation.specs.Steps.{Mode, doing, does, from}
 
 -- ## Values at hand
 
+-- a text that is no longer than a value may be
+abbrev pub short_text : Bool → Bytes → Option Bytes
+short_text true text = Some text
+short_text false text = None
+
 abbrev pub text_read : Result Bytes FrameFault → Option Bytes
-text_read (Ok text) = Some text
+text_read (Ok text) = short_text (nat_le (length text) 16777216) text
 text_read (Err fault) = None
 
 -- the value of the one variable that the parts of a word are
@@ -42,11 +46,6 @@ comes_to frames (substitute word next) = given (variable_value frames word.parts
 abbrev pub IsNumberAtHand : Levels → Integers → List Node → ℤ → Type 0
 IsNumberAtHand frames style code n = (text : Bytes) ×
     (comes_to frames (from style code 0 []) ≡ Some text) × (int_of style text ≡ Ok n)
-
--- the steps come to a text of this truth
-abbrev pub IsTruthAtHand : Levels → Integers → List Node → Bool → Type 0
-IsTruthAtHand frames style code b = (text : Bytes) ×
-    (comes_to frames (from style code 0 []) ≡ Some text) × (truth style text ≡ Ok b)
 
 -- ## What the functions do
 

@@ -7,7 +7,7 @@ ghost use Rattle.tcl_value.specs.Limits.{Bytes};
 ghost use Rattle.tcl_value.specs.Reading.{int_of};
 ghost use Rattle.tcl_operators.specs.Apply.{apply_unary, apply_binary};
 ghost use Rattle.tcl_expression_evaluation.specs.Computations.{Computation, operand};
-ghost use Rattle.tcl_number_expressions.specs.AtHand.{comes_to, IsNumberAtHand, IsTruthAtHand};
+ghost use Rattle.tcl_number_expressions.specs.AtHand.{comes_to, IsNumberAtHand};
 ghost use Rattle.tcl_number_expressions.specs.AtHand.{ReadAs, Brings};
 
 use arrayvec::ArrayVec;
@@ -31,16 +31,6 @@ pub fn number_at_hand(frames: &Frames, style: Integers, tree: &ExprTree) -> Opti
         (λ n. IsNumberAtHand frames.now.frames style tree.now.nodes.items n) }
 {
     number_of_steps(frames, style, tree.nodes.as_slice())
-}
-
-/// The truth of what an expression comes to, where [`number_at_hand`] finds that. This takes no
-/// memory.
-pub fn truth_at_hand(frames: &Frames, style: Integers, tree: &ExprTree) -> Option<bool>
-    ensures { IfSome result
-        (λ b. IsTruthAtHand frames.now.frames style tree.now.nodes.items b) }
-{
-    let number = number_at_hand(frames, style, tree)?;
-    Some(number != 0)
 }
 
 /// The number that steps come to, one after another.
@@ -93,7 +83,11 @@ fn value_at_hand<'a>(frames: &'a Frames, leaf: &'a Leaf) -> Option<&'a Value>
 {
     match leaf {
         Leaf::Literal(value) => Some(value),
-        Leaf::Substituted(operand) => frames.scalar_near(operand.variable()?),
+        Leaf::Substituted(operand) => {
+            let value = frames.scalar_near(operand.variable()?)?;
+            let _within = value.text_len();
+            Some(value)
+        }
     }
 }
 
