@@ -1,7 +1,9 @@
 -- Step after step.
 use Rattle.std.proofs.Common.{◌≡◌, ◌∙◌, sym, ap, subst, refl, ℕ, ◌+◌, ◌≤◌, ◌<◌, List, [], ◌∷◌, ◌++◌, length, drop, get_or, ℤ, FitsSigned, w64, Bool, true, false, nat_le, arith, Option, Some, None, Result, Ok, Err, IfSome, option_to_list}
+use Rattle.std.specs.Result.{result_ok}
 use Rattle.std.specs.Fmt.{signed_decimal}
 use Rattle.tcl_text.specs.declared.integer.Integers.{Integers}
+use Rattle.tcl_text.specs.declared.integer.IntegerFault.{IntegerFault}
 use Rattle.tcl_parser.specs.Words.{WordRead}
 use Rattle.tcl_parser.specs.declared.script.Part.{Part}
 use Rattle.tcl_parser.specs.declared.script.Part.TheVariants.{Variable, Literal, Element, EndElement, Script}
@@ -22,7 +24,7 @@ use Rattle.tcl_expression_evaluation.specs.Computations.{Computation, substitute
 use Rattle.tcl_expression_evaluation.specs.Steps.{doing, goes, from, top, below}
 use Rattle.tcl_expression_evaluation.proofs.Going.{done_at, done_past}
 use Rattle.tcl_number_expressions.specs.AtHand.{comes_to, given, text_read, variable_value, short_text, ReadAs, Brings, IsNumberAtHand}
-use Rattle.tcl_number_expressions.proofs.Waiting.{none_wait, pushed, Popped, popped}
+use Rattle.tcl_number_expressions.proofs.Waiting.{none_wait, pushed, popped}
 
 -- ## Steps
 
@@ -63,6 +65,10 @@ brought : (frames : Levels) (style : Integers) (x : Leaf) (texts : List Bytes) (
     ((next : Bytes → Computation) → comes_to frames (operand x next) ≡ comes_to frames (next text)) → int_of style text ≡ Ok n → Brings frames style (node.Operand x) texts numbers n
 brought frames style x texts numbers text n stay is reads = record { text = text; before = texts; reads = reads; stay = stay; goes_on = λ k. is (λ v. k doing (texts ++ v ∷ [])) }
 
+pub number_read : (r : Result ℤ IntegerFault) (found : Option ℤ) (given : Result ℤ IntegerFault) → found ≡ result_ok r → r ≡ given → IfSome found (λ n. given ≡ Ok n)
+number_read (Ok m) found given e h = subst (λ (p : Option ℤ). IfSome p (λ n. given ≡ Ok n)) (sym e) (sym h)
+number_read (Err f) found given e h = subst (λ (p : Option ℤ). IfSome p (λ n. given ≡ Ok n)) (sym e) tt
+
 pub operand_read : (r : Option ℤ) (frames : Levels) (style : Integers) (x : Leaf) (texts : List Bytes) (numbers : List ℤ) (text : Bytes) → ReadAs style texts numbers →
     ((next : Bytes → Computation) → comes_to frames (operand x next) ≡ comes_to frames (next text)) → IfSome r (λ n. int_of style text ≡ Ok n) → IfSome r (λ n. Brings frames style (node.Operand x) texts numbers n)
 operand_read (Some n) frames style x texts numbers text stay is reads = brought frames style x texts numbers text n stay is reads
@@ -88,12 +94,12 @@ two_gone : (frames : Levels) (style : Integers) (o : BinaryOperator) (texts : Li
 two_gone frames style o texts all more numbers x y n wait is then fits made =
     let q = popped style texts all more y wait is in
     let p = popped style (below texts) more numbers x q.others then in record {
-  text = signed_decimal n;
-  before = below (below texts);
-  reads = int_of-number style n fits;
-  stay = p.others;
-  goes_on = λ k. ap (λ r. comes_to frames (and_then r (λ v. k doing (below (below texts) ++ v ∷ [])))) (made style (top (below texts)) (top texts) p.last q.last);
-}
+      text = signed_decimal n;
+      before = below (below texts);
+      reads = int_of-number style n fits;
+      stay = p.others;
+      goes_on = λ k. ap (λ r. comes_to frames (and_then r (λ v. k doing (below (below texts) ++ v ∷ [])))) (made style (top (below texts)) (top texts) p.last q.last);
+    }
 
 pub two_applied : (r : Option ℤ) (frames : Levels) (style : Integers) (o : BinaryOperator) (texts : List Bytes) (all more numbers : List ℤ) (x y : ℤ) → ReadAs style texts all → all ≡ more ++ y ∷ [] → more ≡ numbers ++ x ∷ [] → IfSome r (λ n. FitsSigned w64 n) →
     IfSome r (λ n. (style : Integers) (a b : Bytes) → int_of style a ≡ Ok x → int_of style b ≡ Ok y → apply_binary style o a b ≡ Ok (signed_decimal n)) → IfSome r (λ n. Brings frames style (node.Binary o) texts numbers n)

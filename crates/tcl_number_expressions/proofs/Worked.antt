@@ -1,6 +1,5 @@
 -- Worked examples.
-use Rattle.std.proofs.Common.{◌≡◌, ◌∙◌, ap, refl, List, [], ◌∷◌, Err, None, arith}
-use Rattle.tcl_text.specs.declared.integer.Integers.{Integers}
+use Rattle.std.proofs.Common.{◌≡◌, ◌∙◌, ap, [], ◌∷◌, Err, None, arith}
 use Rattle.tcl_text.specs.declared.integer.Integers.TheVariants.{Tcl8, Tcl9}
 use Rattle.tcl_parser.specs.Words.{WordRead}
 use Rattle.tcl_parser.specs.declared.script.Part.TheVariants.{Variable}

@@ -111,9 +111,7 @@ fn apply_to_numbers(operator: BinaryOperator, x: i64, y: i64) -> Option<i64>
 {
     match kind_of(operator) {
         Kind::Arithmetic(computation) => compute(computation, x, y).ok(),
-        Kind::Comparison(comparison) => {
-            Some(if holds(comparison, x.cmp(&y)) { 1 } else { 0 })
-        }
+        Kind::Comparison(comparison) => { Some(if holds(comparison, x.cmp(&y)) { 1 } else { 0 }) }
         _ => None,
     }
 }
