@@ -1,0 +1,4 @@
+pub mod Waiting
+pub mod Operators
+pub mod UnderWay
+pub mod Worked

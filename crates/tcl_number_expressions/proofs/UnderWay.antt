@@ -1,0 +1,134 @@
+-- Step after step.
+use Rattle.std.proofs.Common.{◌≡◌, ◌∙◌, sym, ap, subst, refl, ℕ, ◌+◌, ◌≤◌, ◌<◌, List, [], ◌∷◌, ◌++◌, length, drop, get_or, ℤ, FitsSigned, w64, Bool, true, false, nat_le, arith, Option, Some, None, Result, Ok, Err, IfSome, option_to_list}
+use Rattle.std.specs.Result.{result_ok}
+use Rattle.std.specs.Fmt.{signed_decimal}
+use Rattle.tcl_text.specs.declared.integer.Integers.{Integers}
+use Rattle.tcl_text.specs.declared.integer.IntegerFault.{IntegerFault}
+use Rattle.tcl_parser.specs.Words.{WordRead}
+use Rattle.tcl_parser.specs.declared.script.Part.{Part}
+use Rattle.tcl_parser.specs.declared.script.Part.TheVariants.{Variable, Literal, Element, EndElement, Script}
+use Rattle.tcl_value.specs.Limits.{Bytes, IsWithin}
+use Rattle.tcl_variables.specs.declared.fault.FrameFault.{FrameFault}
+use Rattle.std.proofs.lemmas.Bool.Decides.{nat_tests}
+use Rattle.tcl_value.specs.Reading.{int_of}
+use Rattle.tcl_value.proofs.Laws.{int_of-number}
+use Rattle.tcl_frames.specs.Places.{Levels}
+use Rattle.tcl_frames.specs.Chain.{read}
+use Rattle.tcl_operators.specs.Apply.{apply_unary, apply_binary}
+use Rattle.tcl_expr.specs.declared.operator.UnaryOperator.{UnaryOperator}
+use Rattle.tcl_expr.specs.declared.operator.BinaryOperator.{BinaryOperator}
+use Rattle.tcl_expr.specs.declared.token.Leaf.{Leaf}
+use Rattle.tcl_expr.specs.declared.tree.Node.{Node}
+use Rattle.tcl_expr.specs.declared.tree.Node.TheVariants as node
+use Rattle.tcl_expression_evaluation.specs.Computations.{Computation, substitute, operand, and_then}
+use Rattle.tcl_expression_evaluation.specs.Steps.{doing, goes, from, top, below}
+use Rattle.tcl_expression_evaluation.proofs.Going.{done_at, done_past}
+use Rattle.tcl_number_expressions.specs.AtHand.{comes_to, given, text_read, variable_value, short_text, ReadAs, Brings, IsNumberAtHand}
+use Rattle.tcl_number_expressions.proofs.Waiting.{none_wait, pushed, popped}
+
+-- ## Steps
+
+is_short : (text : Bytes) → IsWithin text → nat_le (length text) 16777216 ≡ true
+is_short text h = grind (arith, nat_tests)
+
+pub variable_at : (frames : Levels) (word : WordRead) (name text : Bytes) (next : Bytes → Computation) → word.parts ≡ Variable name ∷ [] → read frames name ≡ Ok text → IsWithin text → comes_to frames (substitute word next) ≡ comes_to frames (next text)
+variable_at frames word name text next is holds short =
+    ap (λ parts. given (variable_value frames parts) (λ t. comes_to frames (next t))) is ∙ ap (λ r. given (text_read r) (λ t. comes_to frames (next t))) holds
+    ∙ ap (λ b. given (short_text b text) (λ t. comes_to frames (next t))) (is_short text short)
+
+-- what a variable's value leads to, taken apart
+pub record Leads (frames : Levels) (parts : List Part) (next : Bytes → Option Bytes) (text : Bytes) : Type 0 where
+  pub name : Bytes
+  pub value : Bytes
+  pub is : parts ≡ Variable name ∷ []
+  pub holds : read frames name ≡ Ok value
+  pub short : nat_le (length value) 16777216 ≡ true
+  pub on : next value ≡ Some text
+
+pub leads : (frames : Levels) (parts : List Part) (next : Bytes → Option Bytes) (text : Bytes) → given (variable_value frames parts) next ≡ Some text → Leads frames parts next text
+leads frames [] next text h = absurd (cc)
+leads frames (Variable name ∷ []) next text h = by (read frames name) refl h
+  where
+    found : (value : Bytes) (short : Bool) → read frames name ≡ Ok value → nat_le (length value) 16777216 ≡ short → given (short_text short value) next ≡ Some text → Leads frames (Variable name ∷ []) next text
+    found value true e f k = record { name = name; value = value; is = refl; holds = e; short = f; on = k }
+    found value false e f k = absurd (cc)
+    by : (r : Result Bytes FrameFault) → read frames name ≡ r → given (text_read r) next ≡ Some text → Leads frames (Variable name ∷ []) next text
+    by (Ok value) e k = found value (nat_le (length value) 16777216) e refl k
+    by (Err fault) e k = absurd (cc)
+leads frames (Variable name ∷ p ∷ parts) next text h = absurd (cc)
+leads frames (Literal t ∷ parts) next text h = absurd (cc)
+leads frames (Element name ∷ parts) next text h = absurd (cc)
+leads frames (EndElement ∷ parts) next text h = absurd (cc)
+leads frames (Script t ∷ parts) next text h = absurd (cc)
+
+brought : (frames : Levels) (style : Integers) (x : Leaf) (texts : List Bytes) (numbers : List ℤ) (text : Bytes) (n : ℤ) → ReadAs style texts numbers →
+    ((next : Bytes → Computation) → comes_to frames (operand x next) ≡ comes_to frames (next text)) → int_of style text ≡ Ok n → Brings frames style (node.Operand x) texts numbers n
+brought frames style x texts numbers text n stay is reads = record { text = text; before = texts; reads = reads; stay = stay; goes_on = λ k. is (λ v. k doing (texts ++ v ∷ [])) }
+
+pub number_read : (r : Result ℤ IntegerFault) (found : Option ℤ) (given : Result ℤ IntegerFault) → found ≡ result_ok r → r ≡ given → IfSome found (λ n. given ≡ Ok n)
+number_read (Ok m) found given e h = subst (λ (p : Option ℤ). IfSome p (λ n. given ≡ Ok n)) (sym e) (sym h)
+number_read (Err f) found given e h = subst (λ (p : Option ℤ). IfSome p (λ n. given ≡ Ok n)) (sym e) tt
+
+pub operand_read : (r : Option ℤ) (frames : Levels) (style : Integers) (x : Leaf) (texts : List Bytes) (numbers : List ℤ) (text : Bytes) → ReadAs style texts numbers →
+    ((next : Bytes → Computation) → comes_to frames (operand x next) ≡ comes_to frames (next text)) → IfSome r (λ n. int_of style text ≡ Ok n) → IfSome r (λ n. Brings frames style (node.Operand x) texts numbers n)
+operand_read (Some n) frames style x texts numbers text stay is reads = brought frames style x texts numbers text n stay is reads
+operand_read None frames style x texts numbers text stay is reads = tt
+
+one_gone : (frames : Levels) (style : Integers) (o : UnaryOperator) (texts : List Bytes) (all numbers : List ℤ) (x n : ℤ) → ReadAs style texts all → all ≡ numbers ++ x ∷ [] → FitsSigned w64 n →
+    ((style : Integers) (a : Bytes) → int_of style a ≡ Ok x → apply_unary style o a ≡ Ok (signed_decimal n)) → Brings frames style (node.Unary o) texts numbers n
+one_gone frames style o texts all numbers x n wait is fits made = let p = popped style texts all numbers x wait is in record {
+  text = signed_decimal n;
+  before = below texts;
+  reads = int_of-number style n fits;
+  stay = p.others;
+  goes_on = λ k. ap (λ r. comes_to frames (and_then r (λ v. k doing (below texts ++ v ∷ [])))) (made style (top texts) p.last);
+}
+
+pub one_applied : (r : Option ℤ) (frames : Levels) (style : Integers) (o : UnaryOperator) (texts : List Bytes) (all numbers : List ℤ) (x : ℤ) → ReadAs style texts all → all ≡ numbers ++ x ∷ [] → IfSome r (λ n. FitsSigned w64 n) →
+    IfSome r (λ n. (style : Integers) (a : Bytes) → int_of style a ≡ Ok x → apply_unary style o a ≡ Ok (signed_decimal n)) → IfSome r (λ n. Brings frames style (node.Unary o) texts numbers n)
+one_applied (Some n) frames style o texts all numbers x wait is fits made = one_gone frames style o texts all numbers x n wait is fits made
+one_applied None frames style o texts all numbers x wait is fits made = tt
+
+two_gone : (frames : Levels) (style : Integers) (o : BinaryOperator) (texts : List Bytes) (all more numbers : List ℤ) (x y n : ℤ) → ReadAs style texts all → all ≡ more ++ y ∷ [] → more ≡ numbers ++ x ∷ [] → FitsSigned w64 n →
+    ((style : Integers) (a b : Bytes) → int_of style a ≡ Ok x → int_of style b ≡ Ok y → apply_binary style o a b ≡ Ok (signed_decimal n)) → Brings frames style (node.Binary o) texts numbers n
+two_gone frames style o texts all more numbers x y n wait is then fits made =
+    let q = popped style texts all more y wait is in
+    let p = popped style (below texts) more numbers x q.others then in record {
+      text = signed_decimal n;
+      before = below (below texts);
+      reads = int_of-number style n fits;
+      stay = p.others;
+      goes_on = λ k. ap (λ r. comes_to frames (and_then r (λ v. k doing (below (below texts) ++ v ∷ [])))) (made style (top (below texts)) (top texts) p.last q.last);
+    }
+
+pub two_applied : (r : Option ℤ) (frames : Levels) (style : Integers) (o : BinaryOperator) (texts : List Bytes) (all more numbers : List ℤ) (x y : ℤ) → ReadAs style texts all → all ≡ more ++ y ∷ [] → more ≡ numbers ++ x ∷ [] → IfSome r (λ n. FitsSigned w64 n) →
+    IfSome r (λ n. (style : Integers) (a b : Bytes) → int_of style a ≡ Ok x → int_of style b ≡ Ok y → apply_binary style o a b ≡ Ok (signed_decimal n)) → IfSome r (λ n. Brings frames style (node.Binary o) texts numbers n)
+two_applied (Some n) frames style o texts all more numbers x y wait is then fits made = two_gone frames style o texts all more numbers x y n wait is then fits made
+two_applied None frames style o texts all more numbers x y wait is then fits made = tt
+
+-- ## The whole
+
+-- up to a step, with these numbers waiting behind it
+pub record UnderWay (frames : Levels) (style : Integers) (code : List Node) (i : ℕ) (numbers : List ℤ) : Type 0 where
+  pub texts : List Bytes
+  pub wait : ReadAs style texts numbers
+  pub same : comes_to frames (from style code 0 []) ≡ comes_to frames (from style code i texts)
+
+pub begins : (frames : Levels) (style : Integers) (code : List Node) (numbers : List ℤ) → [] ≡ numbers → UnderWay frames style code 0 numbers
+begins frames style code numbers is = record { texts = []; wait = none_wait style numbers is; same = refl }
+
+pub goes_on : (frames : Levels) (style : Integers) (code : List Node) (i : ℕ) (n : Node) (numbers left all : List ℤ) (x : ℤ) → UnderWay frames style code i numbers → i < length code → n ≡ get_or code i n →
+    ((texts : List Bytes) → ReadAs style texts numbers → Brings frames style n texts left x) → all ≡ left ++ x ∷ [] → UnderWay frames style code (i + 1) all
+goes_on frames style code i n numbers left all x u within is brings pushes = let b = brings u.texts u.wait in record {
+  texts = b.before ++ b.text ∷ [];
+  wait = subst (ReadAs style (b.before ++ b.text ∷ [])) (sym pushes) (pushed style b.before left b.text x b.stay b.reads);
+  same = u.same ∙ ap (comes_to frames) (done_at style code i n u.texts within is) ∙ b.goes_on (goes style (drop (i + 1) code));
+}
+
+end : (frames : Levels) (style : Integers) (code : List Node) (i : ℕ) (numbers left : List ℤ) (x : ℤ) → UnderWay frames style code i numbers → length code ≤ i → numbers ≡ left ++ x ∷ [] → IsNumberAtHand frames style code x
+end frames style code i numbers left x u past is = let p = popped style u.texts numbers left x u.wait is in
+    (top u.texts, u.same ∙ ap (comes_to frames) (done_past style code i u.texts past), p.last)
+
+pub ends : (r : Option ℤ) (frames : Levels) (style : Integers) (code : List Node) (i : ℕ) (numbers left : List ℤ) → UnderWay frames style code i numbers → length code ≤ i → numbers ≡ left ++ option_to_list r → IfSome r (λ n. IsNumberAtHand frames style code n)
+ends (Some n) frames style code i numbers left u past is = end frames style code i numbers left n u past is
+ends None frames style code i numbers left u past is = tt

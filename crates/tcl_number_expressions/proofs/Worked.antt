@@ -1,0 +1,27 @@
+-- Worked examples.
+use Rattle.std.proofs.Common.{◌≡◌, ◌∙◌, ap, [], ◌∷◌, Err, None, arith}
+use Rattle.tcl_text.specs.declared.integer.Integers.TheVariants.{Tcl8, Tcl9}
+use Rattle.tcl_parser.specs.Words.{WordRead}
+use Rattle.tcl_parser.specs.declared.script.Part.TheVariants.{Variable}
+use Rattle.tcl_value.specs.Limits.{Bytes}
+use Rattle.tcl_variables.specs.declared.fault.FrameFault.{FrameFault}
+use Rattle.tcl_frames.specs.Places.{Levels}
+use Rattle.tcl_frames.specs.Chain.{read}
+use Rattle.tcl_expression_evaluation.specs.Computations.{Computation, substitute}
+use Rattle.tcl_expression_evaluation.specs.Steps.{goes}
+use Rattle.tcl_number_expressions.specs.AtHand.{comes_to, given, text_read, variable_value}
+use Rattle.tcl_number_expressions.specs.Laws.{OneMoreIs42, OneMoreThanNone}
+use Rattle.tcl_number_expressions.proofs.UnderWay.{variable_at}
+
+pub one_more_is_42 : OneMoreIs42
+unfolding goes
+one_more_is_42 Tcl8 frames x name is holds = variable_at frames x name (48 ∷ 120 ∷ 50 ∷ 57 ∷ []) _ is holds (omega arith)
+one_more_is_42 Tcl9 frames x name is holds = variable_at frames x name (48 ∷ 120 ∷ 50 ∷ 57 ∷ []) _ is holds (omega arith)
+
+none_at : (frames : Levels) (word : WordRead) (name : Bytes) (fault : FrameFault) (next : Bytes → Computation) → word.parts ≡ Variable name ∷ [] → read frames name ≡ Err fault → comes_to frames (substitute word next) ≡ None
+none_at frames word name fault next is fails =
+    ap (λ parts. given (variable_value frames parts) (λ t. comes_to frames (next t))) is ∙ ap (λ r. given (text_read r) (λ t. comes_to frames (next t))) fails
+
+pub one_more_than_none : OneMoreThanNone
+unfolding goes
+one_more_than_none style frames x name fault is fails = none_at frames x name fault _ is fails

@@ -1,0 +1,67 @@
+-- What an expression comes to where each of its operands is at hand: a literal, or a variable that
+-- holds a value.
+use Rattle.std.specs.Prelude.{◌≡◌, Bool, true, false, nat_le, length, List, [], ◌∷◌, ◌++◌, ℤ, Option, Some, None, Result, Ok}
+use Rattle.std.specs.Prelude.{Err}
+use Rattle.tcl_text.specs.declared.integer.Integers.{Integers}
+use Rattle.tcl_parser.specs.declared.script.Part.{Part}
+use Rattle.tcl_parser.specs.declared.script.Part.TheVariants.{Variable}
+use Rattle.tcl_value.specs.Limits.{Bytes}
+use Rattle.tcl_value.specs.Reading.{int_of}
+use Rattle.tcl_variables.specs.declared.fault.FrameFault.{FrameFault}
+use Rattle.tcl_frames.specs.Places.{Levels}
+use Rattle.tcl_frames.specs.Chain.{read}
+use Rattle.tcl_expr.specs.declared.tree.Node.{Node}
+use Rattle.tcl_expression_evaluation.specs.Computations.{Computation, value, refused, substitute}
+use Rattle.tcl_expression_evaluation.specs.Steps.{Mode, doing, does, from}
+
+-- ## Values at hand
+
+-- a text that is no longer than a value may be
+abbrev pub short_text : Bool → Bytes → Option Bytes
+short_text true text = Some text
+short_text false text = None
+
+abbrev pub text_read : Result Bytes FrameFault → Option Bytes
+text_read (Ok text) = short_text (nat_le (length text) 16777216) text
+text_read (Err fault) = None
+
+-- the value of the one variable that the parts of a word are
+abbrev pub variable_value : Levels → List Part → Option Bytes
+variable_value frames (Variable name ∷ []) = text_read (read frames name)
+variable_value frames parts = None
+
+abbrev pub given : Option Bytes → (Bytes → Option Bytes) → Option Bytes
+given (Some text) next = next text
+given None next = None
+
+-- The value that is computed, where every part that is asked for is a variable that holds a value,
+-- and nothing is refused.
+abbrev pub comes_to : Levels → Computation → Option Bytes
+comes_to frames (value text) = Some text
+comes_to frames (refused fault) = None
+comes_to frames (substitute word next) = given (variable_value frames word.parts)
+    (λ text. comes_to frames (next text))
+
+-- the steps come to a text that reads as the number
+abbrev pub IsNumberAtHand : Levels → Integers → List Node → ℤ → Type 0
+IsNumberAtHand frames style code n = (text : Bytes) ×
+    (comes_to frames (from style code 0 []) ≡ Some text) × (int_of style text ≡ Ok n)
+
+-- ## What the functions do
+
+-- each text reads as the number at its place
+unfoldable pub ReadAs : Integers → List Bytes → List ℤ → Type 0
+ReadAs style [] [] = Unit {0}
+ReadAs style [] (n ∷ numbers) = Prim.⊥
+ReadAs style (text ∷ texts) [] = Prim.⊥
+ReadAs style (text ∷ texts) (n ∷ numbers) = (int_of style text ≡ Ok n) × ReadAs style texts numbers
+
+-- a step makes a text of the number n, behind those that stay
+pub record Brings (frames : Levels) (style : Integers) (node : Node) (texts : List Bytes)
+    (numbers : List ℤ) (n : ℤ) : Type 0 where
+  pub text : Bytes
+  pub before : List Bytes
+  pub reads : int_of style text ≡ Ok n
+  pub stay : ReadAs style before numbers
+  pub goes_on : (k : Mode → List Bytes → Computation) → comes_to frames (does style node texts k) ≡
+      comes_to frames (k doing (before ++ text ∷ []))

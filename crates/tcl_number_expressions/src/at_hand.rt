@@ -1,0 +1,117 @@
+//! Computing an expression whose operands are numbers at hand: literals, and variables of the
+//! current frame.
+ghost use Rattle.std.specs.Prelude.{◌≡◌, ◌-◌, ◌≤◌, ◌++◌, ◌∷◌, [], List, Ok, IfSome, length};
+ghost use Rattle.std.specs.Fmt.{signed_decimal};
+ghost use Rattle.tcl_text.specs.declared.integer.Integers.{Integers as Style};
+ghost use Rattle.tcl_value.specs.Limits.{Bytes};
+ghost use Rattle.tcl_value.specs.Reading.{int_of};
+ghost use Rattle.tcl_operators.specs.Apply.{apply_unary, apply_binary};
+ghost use Rattle.tcl_expression_evaluation.specs.Computations.{Computation, operand};
+ghost use Rattle.tcl_number_expressions.specs.AtHand.{comes_to, IsNumberAtHand};
+ghost use Rattle.tcl_number_expressions.specs.AtHand.{ReadAs, Brings};
+
+use arrayvec::ArrayVec;
+use tcl_expr::operator::{BinaryOperator, UnaryOperator};
+use tcl_expr::token::Leaf;
+use tcl_expr::tree::{ExprTree, Node};
+use tcl_frames::frames::Frames;
+use tcl_operators::apply::{compute, holds};
+use tcl_operators::kind::{Arithmetic, Kind, kind_of};
+use tcl_text::integer::Integers;
+use tcl_value::value::Value;
+
+/// How many numbers may wait for their operator.
+const MOST_WAITING: usize = 8;
+
+/// The number that an expression comes to, where each of its operands is a number at hand and each
+/// of its operators computes with numbers or compares them. None wherever that isn't found so: the
+/// expression may still have a value then. This takes no memory.
+pub fn number_at_hand(frames: &Frames, style: Integers, tree: &ExprTree) -> Option<i64>
+    ensures { IfSome result
+        (λ n. IsNumberAtHand frames.now.frames style tree.now.nodes.items n) }
+{
+    number_of_steps(frames, style, tree.nodes.as_slice())
+}
+
+/// The number that steps come to, one after another.
+fn number_of_steps(frames: &Frames, style: Integers, nodes: &[Node]) -> Option<i64>
+    ensures { IfSome result (λ n. IsNumberAtHand frames.now.frames style nodes.now n) }
+{
+    let mut waiting = ArrayVec::<i64, MOST_WAITING>::new();
+    let mut next = 0;
+    'steps: while let Some(node) = nodes.get(next) {
+        next += 1;
+        let number = number_of_step(frames, style, node, &mut waiting)?;
+        if waiting.is_full() {
+            return None;
+        }
+        waiting.push(number);
+    }
+    waiting.pop()
+}
+
+/// The number that a step makes of those that wait, the last of which are its operands and go.
+fn number_of_step(
+    frames: &Frames,
+    style: Integers,
+    node: &Node,
+    waiting: &mut ArrayVec<i64, MOST_WAITING>,
+) -> Option<i64>
+    ensures { (texts : List Bytes) → ReadAs style texts waiting.old.items → IfSome result
+        (λ n. Brings frames.now.frames style node.now texts waiting.new.items n) }
+{
+    match node {
+        Node::Operand(leaf) => value_at_hand(frames, leaf)?.int(style).ok(),
+        Node::Unary(operator) => {
+            let x = waiting.pop()?;
+            apply_to_number(*operator, x)
+        }
+        Node::Binary(operator) => {
+            let y = waiting.pop()?;
+            let x = waiting.pop()?;
+            apply_to_numbers(*operator, x, y)
+        }
+        _ => None,
+    }
+}
+
+/// The value of an operand, where it is a literal or a variable of the current frame.
+fn value_at_hand<'a>(frames: &'a Frames, leaf: &'a Leaf) -> Option<&'a Value>
+    ensures { IfSome result (λ value. (next : Bytes → Computation) →
+        comes_to frames.now.frames (operand leaf.now next)
+        ≡ comes_to frames.now.frames (next value.now)) }
+{
+    match leaf {
+        Leaf::Literal(value) => Some(value),
+        Leaf::Substituted(operand) => {
+            let value = frames.scalar_near(operand.variable()?)?;
+            let _within = value.text_len();
+            Some(value)
+        }
+    }
+}
+
+/// The number that an operator makes of one, if it does.
+fn apply_to_number(operator: UnaryOperator, x: i64) -> Option<i64>
+    ensures { IfSome result (λ n. (style : Style) (a : Bytes) → int_of style a ≡ Ok x →
+        apply_unary style operator a ≡ Ok (signed_decimal n)) }
+{
+    match operator {
+        UnaryOperator::Negate => compute(Arithmetic::Subtract, 0, x).ok(),
+        UnaryOperator::Plus => Some(x),
+        UnaryOperator::Not => Some(if x == 0 { 1 } else { 0 }),
+        UnaryOperator::Complement => None,
+    }
+}
+
+/// The number that an operator makes of two, if it does.
+fn apply_to_numbers(operator: BinaryOperator, x: i64, y: i64) -> Option<i64>
+    ensures { IfSome result (λ n. (style : Style) (a b : Bytes) → int_of style a ≡ Ok x →
+        int_of style b ≡ Ok y → apply_binary style operator a b ≡ Ok (signed_decimal n)) }
+{
+    match kind_of(operator) {
+        Kind::Arithmetic(computation) => compute(computation, x, y).ok(),
+        Kind::Comparison(comparison) => { Some(if holds(comparison, x.cmp(&y)) { 1 } else { 0 }) }
+        _ => None,
+    }
+}
