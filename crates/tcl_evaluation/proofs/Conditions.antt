@@ -26,7 +26,8 @@ use Rattle.tcl_language.specs.Words.{concat}
 use Rattle.tcl_operators.specs.Apply.{truth}
 use Rattle.tcl_operators.specs.Messages.{message_of as operator_message}
 use Rattle.tcl_operators.specs.declared.fault.OperatorFault.{OperatorFault}
-use Rattle.tcl_number_expressions.specs.AtHand.{ComesTo, IsNumberAtHand}
+use Rattle.tcl_number_expressions.specs.AtHand.{comes_to, IsNumberAtHand}
+use Rattle.tcl_number_expressions.proofs.UnderWay.{leads}
 use Rattle.tcl_parser.specs.Words.{WordRead}
 use Rattle.tcl_parser.specs.declared.script.Part.{Part}
 use Rattle.tcl_run.specs.declared.interruption.Interruption.{Interruption}
@@ -40,7 +41,7 @@ use Rattle.tcl_tree.specs.Own.{Own}
 use Rattle.tcl_tree.specs.TreeOf.{tree_of}
 use Rattle.tcl_tree.specs.declared.tree.Place.{Place as TablePlace}
 use Rattle.tcl_tree.specs.declared.tree.Tree.{Tree as Table}
-use Rattle.tcl_calls.proofs.Gathering.{within_fits}
+use Rattle.std.proofs.lemmas.Option.{same_Some}
 use Rattle.tcl_calls.specs.Expressions.{IsKept, IsRefused, settles}
 use Rattle.tcl_calls.specs.Turns.{After, EndsIn, Goes, Leaves, Turns}
 use Rattle.tcl_calls.specs.Words.{EndsBy}
@@ -125,13 +126,15 @@ module _ {S : Type 0} {ways : Ways S} (style : Integers) where
   misread text e h = read_fails (expression_message text) (expression_of style text) _ e h
 
   -- a computation whose parts are variables alone, each of which holds a value, goes on with what it comes to
-  pub at_hand : {T V : Tree Own} {o z : S} {p : Path} {r : Ending} {n : TreeNode Own} (c : Computation) (t : Text) (k : Text → Program) → T p ≡ Some n → ComesTo n.own.chain.frames c t →
+  pub at_hand : {T V : Tree Own} {o z : S} {p : Path} {r : Ending} {n : TreeNode Own} (c : Computation) (t : Text) (k : Text → Program) → T p ≡ Some n → comes_to n.own.chain.frames c ≡ Some t →
       Proceeds ways (language style) T o p (k t) V z r → Proceeds ways (language style) T o p (computed c k) V z r
-  at_hand (value v) t k there h s = at_prog (ap k h) s
-  at_hand (refused f) t k there h s = elim h [ ]
-  at_hand (substitute part next) t k there h s = part_goes part next k (ok h.1) h.1 refl refl
-      (at_prog (ap (λ (ps : List Part). parts ps [] []) h.2) (Steps.variable_goes style h.0 h.1 [] [] [] there h.3 (within_fits h.1 h.4) (completed)))
-      (at_hand (next h.1) t k there h.5 s)
+  at_hand (value v) t k there h s = at_prog (ap k (same_Some v t h)) s
+  at_hand (refused f) t k there h s = absurd (cc)
+  at_hand {n = n} (substitute part next) t k there h s =
+      let l = leads n.own.chain.frames part.parts (λ v. comes_to n.own.chain.frames (next v)) t h in
+      part_goes part next k (ok l.value) l.value refl refl
+      (at_prog (ap (λ (ps : List Part). parts ps [] []) l.is) (Steps.variable_goes style l.name l.value [] [] [] there l.holds l.short completed))
+      (at_hand (next l.value) t k there l.on s)
 
   -- an expression whose operands are numbers at hand comes to its number in decimal
   pub number_at_hand : {T : Tree Own} {o : S} {p : Path} {n : TreeNode Own} (s : Integers) (nodes : List Node) (m : ℤ) (v : Text) → s ≡ style → T p ≡ Some n → IsNumberAtHand n.own.chain.frames s nodes m → v ≡ signed_decimal m →
