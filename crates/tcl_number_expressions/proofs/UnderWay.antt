@@ -52,6 +52,7 @@ leads frames (Variable name ∷ []) next text h = by (read frames name) refl h
     found : (value : Bytes) (short : Bool) → read frames name ≡ Ok value → nat_le (length value) 16777216 ≡ short → given (short_text short value) next ≡ Some text → Leads frames (Variable name ∷ []) next text
     found value true e f k = record { name = name; value = value; is = refl; holds = e; short = f; on = k }
     found value false e f k = absurd (cc)
+
     by : (r : Result Bytes FrameFault) → read frames name ≡ r → given (text_read r) next ≡ Some text → Leads frames (Variable name ∷ []) next text
     by (Ok value) e k = found value (nat_le (length value) 16777216) e refl k
     by (Err fault) e k = absurd (cc)
