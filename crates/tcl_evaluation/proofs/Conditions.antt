@@ -128,9 +128,9 @@ module _ {S : Type 0} {ways : Ways S} (style : Integers) where
   -- a computation whose parts are variables alone, each of which holds a value, goes on with what it comes to
   pub at_hand : {T V : Tree Own} {o z : S} {p : Path} {r : Ending} {n : TreeNode Own} (c : Computation) (t : Text) (k : Text → Program) → T p ≡ Some n → comes_to n.own.chain.frames c ≡ Some t →
       Proceeds ways (language style) T o p (k t) V z r → Proceeds ways (language style) T o p (computed c k) V z r
-  at_hand (value v) t k there h s = at_prog (ap k (same_Some v t h)) s
-  at_hand (refused f) t k there h s = absurd (cc)
-  at_hand {n = n} (substitute part next) t k there h s =
+  at_hand {T} {V} {o} {z} {p} {r} {n} (value v) t k there h s = at_prog (ap k (same_Some v t h)) s
+  at_hand {T} {V} {o} {z} {p} {r} {n} (refused f) t k there h s = absurd (cc)
+  at_hand {T} {V} {o} {z} {p} {r} {n} (substitute part next) t k there h s =
       let l = leads n.own.chain.frames part.parts (λ v. comes_to n.own.chain.frames (next v)) t h in
       part_goes part next k (ok l.value) l.value refl refl
       (at_prog (ap (λ (ps : List Part). parts ps [] []) l.is) (Steps.variable_goes style l.name l.value [] [] [] there l.holds l.short completed))

@@ -121,9 +121,9 @@ fn are_single(words: &[PreparedWord]) -> bool
 
 /// Keeps in the literals among words the places that their copies keep.
 fn keep_places(words: &[PreparedWord], texts: &[Value]) {
-    'words: for i in 0..words.len().min(texts.len()) {
-        if let PreparedWord::Literal(literal) = &words[i] {
-            keep_place_of(literal, &texts[i]);
+    'words: for (word, text) in words.iter().zip(texts) {
+        if let PreparedWord::Literal(literal) = word {
+            keep_place_of(literal, text);
         }
     }
 }

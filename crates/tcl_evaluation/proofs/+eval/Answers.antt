@@ -3219,6 +3219,9 @@ crossing::invoke_at-returns-in_err-set_aside-clause-keeps g t c = level_keeps _ 
 pub commands::call_procedure-returns-in_err-enter_frame-clause-keeps : goal.commands::call_procedure-returns-in_err-enter_frame-clause-keeps
 commands::call_procedure-returns-in_err-enter_frame-clause-keeps g t c = level_keeps _ c.enter_frame.ensures.level
 
+pub expressions::expression-returns-in-Some-clause-here : goal.expressions::expression-returns-in-Some-clause-here
+expressions::expression-returns-in-Some-clause-here g t c = here-refl c.args.tree.now c.args.place
+
 pub expressions::expression-returns-in_err-operand-clause-here : goal.expressions::expression-returns-in_err-operand-clause-here
 expressions::expression-returns-in_err-operand-clause-here g t c = on_completion c.from_residual.result (IsHere c.args.tree.now c.parts.tree c.args.place) c.parts.invariant.here
 
