@@ -119,11 +119,14 @@ fn are_single(words: &[PreparedWord]) -> bool
     true
 }
 
-/// Keeps in the literals among words the places that their copies keep.
+/// Keeps in the literals among words, up to the first that is spread, the places that their copies
+/// keep.
 fn keep_places(words: &[PreparedWord], texts: &[Value]) {
     'words: for (word, text) in words.iter().zip(texts) {
-        if let PreparedWord::Literal(literal) = word {
-            keep_place_of(literal, text);
+        match word {
+            PreparedWord::Literal(literal) => keep_place_of(literal, text),
+            PreparedWord::Spread(_) => return,
+            PreparedWord::Lone(_) | PreparedWord::Parts(_) => {}
         }
     }
 }
@@ -149,7 +152,9 @@ fn call_many<O: Outside>(
         let text = on_ok(eval_word(tree, alloc, outside, place, word))?;
         spread(alloc, expands(word), text, &mut texts)?;
     }
-    call_texts(tree, alloc, outside, place, texts.as_slice())
+    let ended = call_texts(tree, alloc, outside, place, texts.as_slice());
+    keep_places(words, texts.as_slice());
+    ended
 }
 
 /// Calls the command of two words, neither of which is spread.

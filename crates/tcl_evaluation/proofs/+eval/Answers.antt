@@ -290,22 +290,22 @@ words::call_many-words-preserved g t c =
       keeps = keeps-trans c.words.invariant.keeps c.eval_word.ensures.keeps;
     }
 
-pub words::call_many-call_texts-requires : goal.words::call_many-call_texts-requires
-words::call_many-call_texts-requires g t c κs within = (search rules, (search rules, still_running c.args.tree.now c.words.tree c.args.place c.words.invariant.here c.requires.running))
+pub words::call_many-call_texts-ended-requires : goal.words::call_many-call_texts-ended-requires
+words::call_many-call_texts-ended-requires g t c κs within = (search rules, (search rules, still_running c.args.tree.now c.words.tree c.args.place c.words.invariant.here c.requires.running))
 
 pub words::call_many-returns-clause-runs : goal.words::call_many-returns-clause-runs
 words::call_many-returns-clause-runs g t c =
     let none = none_on c.args.words.now c.words.word-index c.words-test.false in
-    IfRan-more c.call_texts.result (EndsFrom (ways g.O.Outside.goes g.O.Outside.loses) c.words.tree c.words.outside c.args.place (λ style. words [] c.as_slice.result.now) c.call_texts.new.tree c.call_texts.new.outside)
-    (EndsFrom (ways g.O.Outside.goes g.O.Outside.loses) c.args.tree.now c.args.outside.now c.args.place (λ style. words (map seen_word c.args.words.now) []) c.call_texts.new.tree c.call_texts.new.outside) (λ e h q style at.
+    IfRan-more c.call_texts-ended.result (EndsFrom (ways g.O.Outside.goes g.O.Outside.loses) c.words.tree c.words.outside c.args.place (λ style. words [] c.as_slice.result.now) c.call_texts-ended.new.tree c.call_texts-ended.new.outside)
+    (EndsFrom (ways g.O.Outside.goes g.O.Outside.loses) c.args.tree.now c.args.outside.now c.args.place (λ style. words (map seen_word c.args.words.now) []) c.call_texts-ended.new.tree c.call_texts-ended.new.outside) (λ e h q style at.
     c.words.invariant.leads q style at _ _ _ (at_prog (ap (λ (ws : List PreparedWord). words (map seen_word ws) c.words.texts.items) none ∙ ap (words []) (sym c.as_slice.ensures.value))
-    (h q style (still_at c.args.tree.now c.words.tree c.args.place q style c.words.invariant.here at)))) c.call_texts.ensures.runs
+    (h q style (still_at c.args.tree.now c.words.tree c.args.place q style c.words.invariant.here at)))) c.call_texts-ended.ensures.runs
 
 pub words::call_many-returns-clause-here : goal.words::call_many-returns-clause-here
-words::call_many-returns-clause-here g t c = here_then c.call_texts.result c.args.tree.now c.words.tree c.call_texts.new.tree c.args.place c.words.invariant.here c.call_texts.ensures.here
+words::call_many-returns-clause-here g t c = here_then c.call_texts-ended.result c.args.tree.now c.words.tree c.call_texts-ended.new.tree c.args.place c.words.invariant.here c.call_texts-ended.ensures.here
 
 pub words::call_many-returns-clause-keeps : goal.words::call_many-returns-clause-keeps
-words::call_many-returns-clause-keeps g t c = keeps-trans c.words.invariant.keeps c.call_texts.ensures.keeps
+words::call_many-returns-clause-keeps g t c = keeps-trans c.words.invariant.keeps c.call_texts-ended.ensures.keeps
 
 -- two words
 
