@@ -1,4 +1,5 @@
 //! The operands of expressions.
+ghost use Rattle.std.specs.Prelude.{[]};
 ghost use Rattle.tcl_language.specs.Scripts as scripts;
 ghost use Rattle.tcl_run.specs.Ends.{OnCompletion};
 ghost use Rattle.tcl_run.specs.Runs.{IsHere, IsRunning, Keeps, ProceedsIn, ways};
