@@ -136,6 +136,7 @@ use Rattle.tcl_language.specs.Sourcing as sourcing
 use Rattle.tcl_calls.specs.HostCalls.{IsOver, meaning_of, program_of as host_program}
 use Rattle.std.proofs.Common.{FitsSigned, w64, ℤ}
 use Rattle.std.proofs.lemmas.Int.{to_z-of_z}
+use Rattle.std.specs.Fmt.{signed_decimal}
 use Rattle.std.specs.Prelude.{Ok}
 use Rattle.tcl_core.specs.Entries.Entry.{AskHost}
 use Rattle.tcl_core.specs.Entries as asking
@@ -1333,8 +1334,10 @@ pub expressions::expression-returns-in-Some-clause-runs : goal.expressions::expr
 expressions::expression-returns-in-Some-clause-runs g t c = λ q style at text is.
     let n = stands (tree_of c.args.tree.now q) (tree_there c.args.tree.now q _ at.names) in
     let same = c.integers-style.ensures ∙ at.style_is in
+    let fits : FitsSigned w64 c.in-Some.number = search rules in
+    let made : c.from_int.result ≡ signed_decimal c.in-Some.number = c.from_int.ensures ∙ ap signed_decimal (to_z-of_z w64 c.in-Some.number fits) in
     Conditions.computes_kept style text c.args.kept.now is
-    (Conditions.number_at_hand style c.integers-style.result c.args.kept.now.nodes.items c.in-Some.number c.from_int.result same n.1 (c.in-Some.ensures q n.0 at.names n.1) c.from_int.ensures)
+    (Conditions.number_at_hand style c.integers-style.result c.args.kept.now.nodes.items c.in-Some.number c.from_int.result same n.1 (c.in-Some.ensures q n.0 at.names n.1) made)
 
 pub expressions::expression-returns-in_err-operand-clause-runs : goal.expressions::expression-returns-in_err-operand-clause-runs
 expressions::expression-returns-in_err-operand-clause-runs g t c =
