@@ -137,10 +137,9 @@ impl Readings {
     pub fn script_of(
         &mut self,
         alloc: Global,
-        value: &mut Value,
+        value: &Value,
     ) -> Result<Rc<Prepared>, AllocError>
-        ensures read { IfOk result (λ script. script.value ≡ read_script value.old) }
-        ensures same { value.new ≡ value.old }
+        ensures { IfOk result (λ script. script.value ≡ read_script value.now) }
     {
         if let Some(script) = self.script_at_hand(value)? {
             return Ok(script);
@@ -148,7 +147,7 @@ impl Readings {
         let text = value.text(alloc)?;
         let Found { script, at } = self.find(alloc, &text)?;
         if let Some(at) = at {
-            value.set_place(at);
+            value.keep_place(at);
         }
         Ok(script)
     }

@@ -80,7 +80,7 @@ fn text_value(text: &Text) -> Result<Option<Value>, AllocError>
         return Ok(None);
     }
     match Value::from_text(text.clone()?) {
-        Ok(value) => Ok(Some(value.with_place())),
+        Ok(value) => Ok(Some(value)),
         Err(_) => Ok(None),
     }
 }
