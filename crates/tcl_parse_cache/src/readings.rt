@@ -134,11 +134,7 @@ impl Readings {
     ///
     /// # Errors
     /// Want of memory.
-    pub fn script_of(
-        &mut self,
-        alloc: Global,
-        value: &Value,
-    ) -> Result<Rc<Prepared>, AllocError>
+    pub fn script_of(&mut self, alloc: Global, value: &Value) -> Result<Rc<Prepared>, AllocError>
         ensures { IfOk result (λ script. script.value ≡ read_script value.now) }
     {
         if let Some(script) = self.script_at_hand(value)? {
