@@ -61,12 +61,8 @@ pub fn find_command(
     let Some(name) = kept_name(alloc, word)? else {
         return Err(bad_name(alloc, word.text(alloc)?.as_str()));
     };
-    let mut hint = word.place().unwrap_or(0);
-    match tree.command_near(place, &name, &mut hint) {
-        Some(command) => {
-            word.keep_place(hint);
-            Ok(command.clone()?)
-        }
+    match tree.command_near(place, &name) {
+        Some(command) => Ok(command.clone()?),
         None => Err(invalid_command(alloc, word.text(alloc)?.as_str())),
     }
 }

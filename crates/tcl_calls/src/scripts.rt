@@ -11,32 +11,6 @@ use tcl_run::failure::refused;
 use tcl_run::interruption::Interruption;
 use tcl_value::value::Value;
 
-/// The same script, which may be found where the first of the words that it was put together of
-/// keeps.
-fn found_by(words: &[Value], script: Value) -> Value
-    ensures { result ≡ script }
-{
-    let script = script.with_place();
-    if let [word, ..] = words {
-        keep_place_of(&script, word);
-    }
-    script
-}
-
-/// Keeps in a value the place that another keeps.
-pub fn keep_place_of(value: &Value, other: &Value) {
-    if let Some(place) = other.place() {
-        value.keep_place(place);
-    }
-}
-
-/// Keeps in the first of words where the script that they were put together to is found.
-pub fn keep_place(words: &[Value], script: &Value) {
-    if let [word, ..] = words {
-        keep_place_of(word, script);
-    }
-}
-
 /// The script that words are put together to, as `concat` puts them: trimmed of white space, with a
 /// space between any two. (concat(n))
 ///
@@ -51,7 +25,7 @@ pub fn script_of(alloc: Global, words: &[Value]) -> Result<Value, Interruption>
         (e ≡ Completed too_long_error))) }
 {
     match concat(alloc, words) {
-        Ok(script) => Ok(found_by(words, script)),
+        Ok(script) => Ok(script),
         Err(refusal) => Err(refused(alloc, refusal)),
     }
 }

@@ -19,7 +19,7 @@ use tcl_frames::frames::Frames;
 use tcl_lists::changing as lists;
 use tcl_run::failure::{failure, refused};
 use tcl_run::interruption::Interruption;
-use tcl_run::steps::{frame_failure, keep_hint, variable_name};
+use tcl_run::steps::{frame_failure, variable_name};
 use tcl_text::integer::Integers;
 use tcl_text::text::Text;
 use tcl_tree::tree::{Place, Tree};
@@ -179,9 +179,7 @@ fn change_named(
     ensures level { IsLevel tree.old tree.new }
 {
     let name = variable_name(alloc, word)?;
-    let changed = change_variable(tree, alloc, place, &name, makes, change);
-    keep_hint(word, &name);
-    changed
+    change_variable(tree, alloc, place, &name, makes, change)
 }
 
 /// `lset varName ?index ...? newValue`: another element stands where the indexes lead in the list

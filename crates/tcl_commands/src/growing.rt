@@ -21,7 +21,7 @@ use tcl_frames::frames::Frames;
 use tcl_lists::refusing::not_changed;
 use tcl_run::failure::{failure, too_long, wrong_args};
 use tcl_run::interruption::Interruption;
-use tcl_run::steps::{frame_failure, keep_hint, read_by_word, variable_name};
+use tcl_run::steps::{frame_failure, read_by_word, variable_name};
 use tcl_text::integer::Integers;
 use tcl_text::limit::MOST_BYTES;
 use tcl_text::text::Text;
@@ -231,9 +231,7 @@ pub(crate) fn grow_named(
     ensures level { IsLevel tree.old tree.new }
 {
     let name = variable_name(alloc, word)?;
-    let grown = grow_variable(tree, alloc, place, &name, growth, more);
-    keep_hint(word, &name);
-    grown
+    grow_variable(tree, alloc, place, &name, growth, more)
 }
 
 /// `append varName ?value ...?`: adds values to the text of a variable, which is empty where there

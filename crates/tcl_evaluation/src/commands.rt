@@ -24,7 +24,6 @@ use tcl_builtins::plain::call_plain;
 use tcl_calls::host_calls::HostCommand;
 use tcl_calls::lookup::{find_command, find_hidden};
 use tcl_calls::procedures::{bind, enter_frame, leave_frame, wrong_form};
-use tcl_calls::scripts::keep_place_of;
 use tcl_flow::completion::leave_proc;
 use tcl_interp::naming::rename;
 use tcl_run::interruption::Interruption;
@@ -188,7 +187,6 @@ fn call_procedure<O: Outside>(
     let mut body = procedure.body().clone()?;
     enter_frame(tree, alloc, place, words, bindings.as_slice())?;
     let ended = eval_value(tree, alloc, outside, place, &mut body);
-    keep_place_of(procedure.body(), &body);
     leave_frame(tree, place);
     left_proc(alloc, ended)
 }

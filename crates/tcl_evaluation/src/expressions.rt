@@ -11,7 +11,7 @@ use crate::operands::eval_operand;
 use std::alloc::Global;
 use tcl_calls::branches::{Branches, branches_of};
 use tcl_calls::expressions::{holds, next_part, number_at, read_expression, settle};
-use tcl_calls::scripts::{keep_place, keep_place_of, script_of};
+use tcl_calls::scripts::script_of;
 use tcl_calls::turns::{goes_on, turns_on};
 use tcl_expr::tree::ExprTree;
 use tcl_expression_evaluation::evaluation::{Evaluation, Progress};
@@ -110,7 +110,6 @@ pub fn expr<O: Outside>(
     }
     let text = script_of(alloc, args)?;
     let kept = read_expression(tree, alloc, tree.integers(), &text)?;
-    keep_place(args, &text);
     let mut evaluation = Evaluation::new(alloc);
     expression(tree, alloc, outside, place, &mut evaluation, &kept)
 }
@@ -144,18 +143,14 @@ pub fn if_first<O: Outside>(
         let test = read_expression(tree, alloc, tree.integers(), branch.test)?;
         if condition(tree, alloc, outside, place, &mut evaluation, &test)? {
             let mut body = branch.body.clone()?;
-            let ended = eval_value(tree, alloc, outside, place, &mut body);
-            keep_place_of(branch.body, &body);
-            return ended;
+            return eval_value(tree, alloc, outside, place, &mut body);
         }
     }
     let Some(last) = last else {
         return Ok(Value::empty());
     };
     let mut body = last.clone()?;
-    let ended = eval_value(tree, alloc, outside, place, &mut body);
-    keep_place_of(last, &body);
-    ended
+    eval_value(tree, alloc, outside, place, &mut body)
 }
 
 /// A turn of a loop with a condition: whether the loop goes on. Where the condition holds, the turn

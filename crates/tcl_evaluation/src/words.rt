@@ -10,7 +10,6 @@ ghost use Rattle.tcl_evaluation.specs.View.{AreSingle};
 use crate::commands::call;
 use crate::evaluation::eval_word;
 use std::alloc::Global;
-use tcl_calls::scripts::keep_place_of;
 use tcl_calls::words::spread;
 use tcl_prepared::prepared::PreparedWord;
 use tcl_run::interruption::Interruption;
@@ -119,18 +118,6 @@ fn are_single(words: &[PreparedWord]) -> bool
     true
 }
 
-/// Keeps in the literals among words, up to the first that is spread, the places that their copies
-/// keep.
-fn keep_places(words: &[PreparedWord], texts: &[Value]) {
-    'words: for (word, text) in words.iter().zip(texts) {
-        match word {
-            PreparedWord::Literal(literal) => keep_place_of(literal, text),
-            PreparedWord::Spread(_) => return,
-            PreparedWord::Lone(_) | PreparedWord::Parts(_) => {}
-        }
-    }
-}
-
 /// Calls the command of any number of words, which may be spread.
 #[cycle(eval)]
 #[inline(never)]
@@ -152,9 +139,7 @@ fn call_many<O: Outside>(
         let text = on_ok(eval_word(tree, alloc, outside, place, word))?;
         spread(alloc, expands(word), text, &mut texts)?;
     }
-    let ended = call_texts(tree, alloc, outside, place, texts.as_slice());
-    keep_places(words, texts.as_slice());
-    ended
+    call_texts(tree, alloc, outside, place, texts.as_slice())
 }
 
 /// Calls the command of two words, neither of which is spread.
@@ -180,9 +165,7 @@ fn call_two<O: Outside>(
     let first_text = on_ok(eval_word(tree, alloc, outside, place, first))?;
     let second_text = on_ok(eval_word(tree, alloc, outside, place, second))?;
     let texts = [first_text, second_text];
-    let ended = call_texts(tree, alloc, outside, place, &texts);
-    keep_places(words, &texts);
-    ended
+    call_texts(tree, alloc, outside, place, &texts)
 }
 
 /// The same of three words.
@@ -209,9 +192,7 @@ fn call_three<O: Outside>(
     let second_text = on_ok(eval_word(tree, alloc, outside, place, second))?;
     let third_text = on_ok(eval_word(tree, alloc, outside, place, third))?;
     let texts = [first_text, second_text, third_text];
-    let ended = call_texts(tree, alloc, outside, place, &texts);
-    keep_places(words, &texts);
-    ended
+    call_texts(tree, alloc, outside, place, &texts)
 }
 
 /// The same of four words.
@@ -239,7 +220,5 @@ fn call_four<O: Outside>(
     let third_text = on_ok(eval_word(tree, alloc, outside, place, third))?;
     let fourth_text = on_ok(eval_word(tree, alloc, outside, place, fourth))?;
     let texts = [first_text, second_text, third_text, fourth_text];
-    let ended = call_texts(tree, alloc, outside, place, &texts);
-    keep_places(words, &texts);
-    ended
+    call_texts(tree, alloc, outside, place, &texts)
 }

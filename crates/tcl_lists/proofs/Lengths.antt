@@ -18,3 +18,6 @@ past_more xs ys h = limited_past (write (xs ++ ys)) (omega (arith, length-write 
 
 pub past_at : (xs ys zs : Texts) → zs ≡ xs ++ ys → IsPast (write xs) → list_value zs ≡ Err too_long
 past_at xs ys zs e h = ap list_value e ∙ past_more xs ys h
+
+pub past_here : (xs : Texts) → IsPast (write xs) → list_value xs ≡ Err too_long
+past_here xs h = limited_past (write xs) h

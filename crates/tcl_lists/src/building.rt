@@ -41,12 +41,10 @@ pub fn push_part(
     ensures refused_here { IfErr result
         (λ e. Refuses e (list_value (made.old ++ drop first (take end list.now)))) }
 {
-    'elements: for index in first..end {
-        if let Err(why) = made.push_from(list, index) {
-            return Err(not_made(alloc, why));
-        }
+    match made.push_slice(list, first, end) {
+        Ok(()) => Ok(()),
+        Err(why) => Err(not_made(alloc, why)),
     }
-    Ok(())
 }
 
 /// Adds words.
@@ -77,8 +75,7 @@ pub fn part_value(alloc: Global, list: &List, first: usize, end: usize) -> Resul
     requires within { end ≤ length list.now }
     ensures { Gives (λ value. value) result (list_value (drop first (take end list.now))) }
 {
-    let mut made = List::new(alloc)?;
-    push_part(alloc, &mut made, list, first, end)?;
+    let made = list.slice(alloc, first, end)?;
     list_value(alloc, made)
 }
 
@@ -98,8 +95,7 @@ pub fn spliced_value(
     ensures { Gives (λ value. value) result
         (list_value (take first list.now ++ words.now ++ drop end list.now)) }
 {
-    let mut made = List::new(alloc)?;
-    push_part(alloc, &mut made, list, 0, first)?;
+    let mut made = list.slice(alloc, 0, first)?;
     push_words(alloc, &mut made, words)?;
     push_part(alloc, &mut made, list, end, list.len())?;
     list_value(alloc, made)

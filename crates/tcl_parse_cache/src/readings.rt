@@ -134,13 +134,8 @@ impl Readings {
     ///
     /// # Errors
     /// Want of memory.
-    pub fn script_of(
-        &mut self,
-        alloc: Global,
-        value: &mut Value,
-    ) -> Result<Rc<Prepared>, AllocError>
-        ensures read { IfOk result (λ script. script.value ≡ read_script value.old) }
-        ensures same { value.new ≡ value.old }
+    pub fn script_of(&mut self, alloc: Global, value: &Value) -> Result<Rc<Prepared>, AllocError>
+        ensures { IfOk result (λ script. script.value ≡ read_script value.now) }
     {
         if let Some(script) = self.script_at_hand(value)? {
             return Ok(script);
@@ -148,7 +143,7 @@ impl Readings {
         let text = value.text(alloc)?;
         let Found { script, at } = self.find(alloc, &text)?;
         if let Some(at) = at {
-            value.set_place(at);
+            value.keep_place(at);
         }
         Ok(script)
     }

@@ -1,5 +1,6 @@
 //! The preparation of scripts that were read.
 ghost use Rattle.std.specs.Prelude.{◌≡◌, ◌≤◌, ◌∷◌, [], false, map, IfOk, IfSome, IsTrue};
+ghost use Rattle.std.specs.Fmt.{signed_decimal};
 ghost use Rattle.tcl_parser.specs.Reading.{read_script};
 ghost use Rattle.tcl_parser.specs.declared.script.Part.TheVariants.{Literal, Script as InScript};
 ghost use Rattle.tcl_value.specs.Limits.{IsWithin};
@@ -14,6 +15,8 @@ use crate::prepared::{Bracket, Literals, Prepared, PreparedCommand, PreparedPart
 use std::alloc::{AllocError, Global};
 use tcl_parser::reader::parse;
 use tcl_parser::script::{Command, Part, Script, Word};
+use tcl_text::integer::{Integers, read_int};
+use tcl_text::list_comparing::is_int;
 use tcl_text::text::Text;
 use tcl_value::value::Value;
 use tcl_variables::variable_name::VariableName;
@@ -70,6 +73,31 @@ fn are_commands_light(commands: &[Command], most: usize) -> bool
     true
 }
 
+/// The number that a text writes in decimal, as numbers are written.
+fn number_of(text: &str) -> Option<i64>
+    ensures { IfSome result (λ n. text.now ≡ signed_decimal n) }
+{
+    let number = read_int(text, Integers::Tcl9).ok()?;
+    if is_int(text.as_bytes(), number) {
+        return Some(number);
+    }
+    None
+}
+
+/// The value of a literal, unless it is longer than a value may be: the number alone, where the text
+/// is as that is written, so that it is read but once.
+fn literal_text(text: &Text) -> Result<Option<Value>, AllocError>
+    ensures text { IfOk result (λ found. IfSome found (λ value. value ≡ text.now)) }
+{
+    if let Some(number) = number_of(text.as_str()) {
+        return Ok(Some(Value::from_int(number)));
+    }
+    match Value::from_text(text.clone()?) {
+        Ok(value) => Ok(Some(value)),
+        Err(_) => Ok(None),
+    }
+}
+
 /// The value of a literal, unless it is longer than a value may be, or empty.
 fn text_value(text: &Text) -> Result<Option<Value>, AllocError>
     ensures parts { IfOk result
@@ -79,9 +107,12 @@ fn text_value(text: &Text) -> Result<Option<Value>, AllocError>
     if text.is_empty() {
         return Ok(None);
     }
-    match Value::from_text(text.clone()?) {
-        Ok(value) => Ok(Some(value.with_place())),
-        Err(_) => Ok(None),
+    match literal_text(text)? {
+        Some(value) => {
+            let _within = value.text_len();
+            Ok(Some(value))
+        }
+        None => Ok(None),
     }
 }
 

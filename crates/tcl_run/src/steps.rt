@@ -112,23 +112,14 @@ pub fn read_named(
     }
 }
 
-/// The name of a variable that a word is. Its hint is the place that the word keeps.
+/// The name of a variable that a word is, which shares its text, and so its hint.
 ///
 /// # Errors
 /// Want of memory.
 pub fn variable_name(alloc: Global, word: &Value) -> Result<VariableName, AllocError>
     ensures { IfOk result (λ name. name ≡ word.now) }
 {
-    let name = VariableName::new(word.text(alloc)?);
-    match word.place() {
-        Some(place) => Ok(name.with_hint(place)),
-        None => Ok(name),
-    }
-}
-
-/// Keeps the hint of a name with the word that it was made of, if the word can keep a place.
-pub fn keep_hint(word: &Value, name: &VariableName) {
-    word.keep_place(name.hint());
+    Ok(VariableName::new(word.text(alloc)?))
 }
 
 /// The value of the variable that a word names, which is sought where the word's place says first.
@@ -143,9 +134,7 @@ pub fn read_by_word(
     ensures short { IfOk result (λ value. fits value ≡ true) }
 {
     let name = variable_name(alloc, word)?;
-    let value = read_named(tree, alloc, place, &name);
-    keep_hint(word, &name);
-    value
+    read_named(tree, alloc, place, &name)
 }
 
 /// The text of an ordinary completion, on which its caller goes on; anything else is the caller's
@@ -276,7 +265,5 @@ pub fn write_by_word(
     ensures level { IsLevel tree.old tree.new }
 {
     let name = variable_name(alloc, word)?;
-    let written = write_named(tree, alloc, place, &name, value);
-    keep_hint(word, &name);
-    written
+    write_named(tree, alloc, place, &name, value)
 }

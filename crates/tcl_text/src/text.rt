@@ -3,18 +3,49 @@ ghost use Rattle.std.specs.Prelude.{◌≡◌, ◌++◌, ◌==◌, length, IfOk,
 ghost use Rattle.std.specs.String.{string_bytes};
 
 use std::alloc::{AllocError, Global};
+use std::cell::Cell;
 use std::cmp::{Eq, PartialEq};
 use std::fmt;
 use std::hash::{Hash, Hasher};
 use std::marker::Model;
 use std::rc::Rc;
 
+/// What the clones of a text share.
+#[derive(Drop)]
+struct Shared {
+    text: String,
+    hint: Cell<u32>,
+}
+
+impl Clone for Shared {
+    ghost use Rattle.std.specs.Prelude.{◌≡◌};
+    ghost use Rattle.std.specs.String.{string_bytes};
+
+    ghost is_clone = { λ x y. string_bytes y.text ≡ string_bytes x.text };
+
+    fn clone(&self) -> Result<Shared, AllocError> {
+        Ok(Shared {
+            text: self.text.clone()?,
+            hint: Cell::new(0),
+        })
+    }
+}
+
 /// A text in UTF-8, which contracts see as the list of its bytes.
 ///
 /// A clone shares the bytes. A text that isn't shared grows in place.
-#[derive(Drop)]
+///
+/// A text and its clones keep a place at which what the text names, or what it was read as, was
+/// found last. That is a hint, of which contracts say nothing and which may be any number: whoever
+/// takes it looks at what stands there.
 pub struct Text {
-    shared: Rc<String>,
+    shared: Rc<Shared>,
+}
+
+impl Drop for Text {
+    fn drop(self) {
+        let Text { shared: _shared } = self;
+    }
 }
 
 impl Model for Text {
@@ -23,7 +54,7 @@ impl Model for Text {
 
     ghost Value = { List ℕ };
 
-    ghost view = { λ a. string_bytes a.shared.value };
+    ghost view = { λ a. string_bytes a.shared.value.text };
 }
 
 impl Text {
@@ -44,7 +75,8 @@ impl Text {
     pub fn from_string(alloc: Global, text: String) -> Result<Text, AllocError>
         ensures { IfOk result (λ made. made ≡ string_bytes text) }
     {
-        let shared = Rc::new(alloc, text)?;
+        let hint = Cell::new(0);
+        let shared = Rc::new(alloc, Shared { text, hint })?;
         Ok(Text { shared })
     }
 
@@ -52,7 +84,19 @@ impl Text {
     pub fn as_str(&self) -> &str
         ensures { result.now ≡ self.now }
     {
-        self.shared.as_str()
+        self.shared.text.as_str()
+    }
+
+    /// The place that was kept last, 0 at first.
+    pub fn hint(&self) -> usize {
+        self.shared.hint.get() as usize
+    }
+
+    /// Keeps a place, for all clones. One that takes more than four bytes isn't kept.
+    pub fn set_hint(&self, place: usize) {
+        if let Ok(place) = u32::try_from(place) {
+            self.shared.hint.set(place);
+        }
     }
 
     /// How many bytes it has.
@@ -77,8 +121,8 @@ impl Text {
         ensures appended { OnOk result (self.new ≡ self.old ++ more.now) }
         ensures unchanged { OnErr result (self.new ≡ self.old) }
     {
-        let text = Rc::make_mut(&mut self.shared)?;
-        text.push_str(more)
+        let shared = Rc::make_mut(&mut self.shared)?;
+        shared.text.push_str(more)
     }
 }
 
@@ -101,7 +145,7 @@ impl PartialEq for Text {
     ghost laws = { Cmp.partial_equiv_from_equiv nat_list_eq_equiv };
 
     fn eq(&self, other: &Text) -> bool {
-        self.shared.as_str() == other.shared.as_str()
+        self.as_str() == other.as_str()
     }
 }
 
@@ -121,19 +165,19 @@ impl Hash for Text {
     ghost respects_eq = { λ x y h. ap fed.str ((bytes_decides x y).0 h) };
 
     fn hash<H: Hasher>(&self, state: &mut H) {
-        self.shared.as_str().hash(state);
+        self.as_str().hash(state);
     }
 }
 
 impl fmt::Debug for Text {
     fn fmt<W: fmt::Write>(&self, f: &mut fmt::Formatter<W>) -> fmt::Result {
-        let text = self.shared.as_str();
+        let text = self.as_str();
         write!(f, "{text:?}")
     }
 }
 
 impl fmt::Display for Text {
     fn fmt<W: fmt::Write>(&self, f: &mut fmt::Formatter<W>) -> fmt::Result {
-        f.write_str(self.shared.as_str())
+        f.write_str(self.as_str())
     }
 }

@@ -16,6 +16,7 @@ pub mod Errors
 pub mod Same
 pub mod Falling
 pub mod Extended
+pub mod Parts
 pub mod Longer
 pub mod Inside
 pub mod InsideDicts

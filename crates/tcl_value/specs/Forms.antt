@@ -14,7 +14,6 @@ use Rattle.tcl_value.specs.declared.value.Form.TheVariants.{Dict as Entries}
 use Rattle.tcl_value.specs.declared.value.Kept.{Kept}
 use Rattle.tcl_value.specs.declared.value.Kept.TheVariants.{Nothing, Tcl8 as Int8, Tcl9 as Int9}
 use Rattle.tcl_value.specs.declared.value.Kept.TheVariants.{List as Words, Dict as Pairs}
-use Rattle.tcl_value.specs.declared.value.Kept.TheVariants.{Place}
 
 -- the text of a form
 abbrev pub form_text : Form → List ℕ
@@ -33,14 +32,13 @@ IsForm (Number n) = FitsSigned w64 n
 IsForm (Items items) = IsWithin (write items.value) × (2 ≤ length items.value)
 IsForm (Entries entries) = IsWithin (write (flat entries.value))
 
--- what is kept is what the text reads as; a place says nothing
+-- what is kept is what the text reads as
 abbrev pub IsKept : List ℕ → Kept → Type 0
 IsKept text Nothing = Unit {0}
 IsKept text (Int8 n) = int_of Tcl8 text ≡ Ok n
 IsKept text (Int9 n) = int_of Tcl9 text ≡ Ok n
 IsKept text (Words list) = list_of text ≡ Ok list
 IsKept text (Pairs dict) = dict_of text ≡ Ok dict
-IsKept text (Place at) = Unit {0}
 
 pub record IsValue (f : Form) (k : Kept) : Type 0 where
   pub form : IsForm f

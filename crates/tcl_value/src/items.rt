@@ -1,7 +1,7 @@
 //! Lists that carry no text.
 ghost use Rattle.std.specs.Prelude.{◌≡◌, ◌<◌, ◌≤◌, ◌++◌, ◌∷◌, ◌^◌, ◌+◌, ◌==◌, false, ◌&&◌, ◌↔◌, []};
 ghost use Rattle.std.specs.Prelude.{length, IfOk, OnOk, OnErr, IfErr, IsErr, IsErrOf, IsTrue};
-ghost use Rattle.std.specs.Prelude.{slice_index_or, slice_set};
+ghost use Rattle.std.specs.Prelude.{slice_index_or, slice_set, take, drop};
 ghost use Rattle.std.specs.Bool.{OnTrue, OnFalse};
 ghost use Rattle.std.specs.String.{string_bytes};
 ghost use Rattle.tcl_text.specs.Writing.{Extends};
@@ -324,6 +324,96 @@ impl Items {
     {
         let most = self.weight + room as u128;
         self.extend_light(elements, most).is_ok()
+    }
+
+    /// What its elements from one place up to another weigh in a list, where the first of them is
+    /// the list's first or not. This measures what is left out of it, and one element.
+    fn weight_by_rest(&self, first: bool, from: usize, to: usize) -> u128
+        requires order { from < to }
+        requires within { to ≤ length self.now }
+        ensures weight { result ≡ weight_from first (drop from (take to self.now)) }
+        ensures few { result < 2 ^ 90 }
+    {
+        let before = weigh(&self.elements[..from]);
+        let behind = weigh_from(false, &self.elements[to..]);
+        let leading = &self.elements[from];
+        let less = leading.written_len(from == 0);
+        let more = leading.written_len(first);
+        self.weight + more as u128 - before - behind - less as u128
+    }
+
+    /// What its elements from one place up to another weigh in a list, where the first of them is
+    /// the list's first or not. This measures no more than half of its elements and one.
+    fn part_weight(&self, first: bool, from: usize, to: usize) -> u128
+        requires order { from ≤ to }
+        requires within { to ≤ length self.now }
+        ensures weight { result ≡ weight_from first (drop from (take to self.now)) }
+        ensures few { result < 2 ^ 90 }
+    {
+        if to - from <= self.elements.len() / 2 {
+            return weigh_from(first, &self.elements[from..to]);
+        }
+        self.weight_by_rest(first, from, to)
+    }
+
+    /// How deep lists and dicts stand in its elements from one place up to another, at most.
+    fn part_depth(&self, from: usize, to: usize) -> u32
+        requires order { from ≤ to }
+        requires within { to ≤ length self.now }
+    {
+        if self.depth == 0 {
+            return 0;
+        }
+        deepest(&self.elements[from..to])
+    }
+
+    /// Its elements from one place up to another.
+    ///
+    /// # Errors
+    /// Want of memory.
+    pub(crate) fn part(&self, alloc: Global, from: usize, to: usize) -> Result<Items, AllocError>
+        requires order { from ≤ to }
+        requires within { to ≤ length self.now }
+        ensures { IfOk result (λ part. part ≡ drop from (take to self.now)) }
+    {
+        let weight = self.part_weight(true, from, to);
+        let depth = self.part_depth(from, to);
+        let elements = self.elements[from..to].to_vec(alloc)?;
+        Ok(Items {
+            elements,
+            weight,
+            depth,
+        })
+    }
+
+    /// Adds the elements of another list from one place up to another, all of them or none.
+    ///
+    /// # Errors
+    /// [`ValueError::TooLong`] exactly where the text would be too long for a value; want of
+    /// memory.
+    pub(crate) fn extend_part(
+        &mut self,
+        other: &Items,
+        from: usize,
+        to: usize,
+    ) -> Result<(), ValueError>
+        requires order { from ≤ to }
+        requires within { to ≤ length other.now }
+        ensures extended { OnOk result (self.new ≡ self.old ++ drop from (take to other.now)) }
+        ensures within { OnOk result (IsWithin (write self.new)) }
+        ensures refused { IsErrOf result ValueError.TooLong ↔ IsPast
+            (write (self.old ++ drop from (take to other.now))) }
+        ensures unchanged { OnErr result (self.new ≡ self.old) }
+    {
+        let weight = self.weight + other.part_weight(self.elements.is_empty(), from, to);
+        if weight > MOST_WEIGHT {
+            return Err(ValueError::TooLong);
+        }
+        let depth = self.depth.max(other.part_depth(from, to));
+        self.elements.extend_from_slice(&other.elements[from..to])?;
+        self.weight = weight;
+        self.depth = depth;
+        Ok(())
     }
 
     /// Puts an element in the place of another, where it then weighs at most this much.

@@ -1,7 +1,7 @@
 //! Lists, whose elements are values.
 ghost use Rattle.std.specs.Prelude.{◌≡◌, ◌<◌, ◌≤◌, Ok, ◌==◌, ◌++◌, ◌∷◌, ◌↔◌, [], length, IfOk};
 ghost use Rattle.std.specs.Prelude.{OnOk, OnErr, IsErr, IfErr, IsErrOf, IsTrue, slice_index_or};
-ghost use Rattle.std.specs.Prelude.{slice_set};
+ghost use Rattle.std.specs.Prelude.{slice_set, take, drop};
 ghost use Rattle.std.specs.Fmt.{signed_decimal};
 ghost use Rattle.std.specs.String.{string_bytes};
 ghost use Rattle.tcl_value.specs.Limits.{IsWithin, IsPast};
@@ -204,6 +204,40 @@ impl List {
     {
         let element = list.items.get(index).clone()?;
         self.push_element(element)
+    }
+
+    /// Its elements from one place up to another, as a list that is made in one go. The whole list
+    /// is shared.
+    ///
+    /// # Errors
+    /// Want of memory.
+    pub fn slice(&self, alloc: Global, from: usize, to: usize) -> Result<List, AllocError>
+        requires order { from ≤ to }
+        requires within { to ≤ length self.now }
+        ensures { IfOk result (λ part. part ≡ drop from (take to self.now)) }
+    {
+        if to - from == self.items.len() {
+            return self.clone();
+        }
+        let items = Rc::new(alloc, self.items.part(alloc, from, to)?)?;
+        Ok(List { items })
+    }
+
+    /// Adds the elements of another list from one place up to another, all of them or none.
+    ///
+    /// # Errors
+    /// [`ValueError::TooLong`] only where the list's text would be too long for a value; want of
+    /// memory. Either leaves the list as it was.
+    pub fn push_slice(&mut self, list: &List, from: usize, to: usize) -> Result<(), ValueError>
+        requires order { from ≤ to }
+        requires within { to ≤ length list.now }
+        ensures pushed { OnOk result (self.new ≡ self.old ++ drop from (take to list.now)) }
+        ensures within { OnOk result (IsWithin (write self.new)) }
+        ensures refused { IsErrOf result ValueError.TooLong →
+            IsPast (write (self.old ++ drop from (take to list.now))) }
+        ensures unchanged { OnErr result (self.new ≡ self.old) }
+    {
+        Rc::make_mut(&mut self.items)?.extend_part(&list.items, from, to)
     }
 
     /// Puts an element in the place of another: in place where the list isn't shared.

@@ -22,7 +22,6 @@ use crate::items::Items;
 use crate::list::List;
 use itoa::Buffer;
 use std::alloc::{AllocError, AllocFailed, Global};
-use std::cell::Cell;
 use std::marker::Model;
 use std::rc::Rc;
 use tcl_text::integer::{IntegerFault, Integers, int_len, push_int, read_int, write_int};
@@ -132,7 +131,7 @@ enum Form {
     Dict(Rc<Entries>),
 }
 
-/// What a value's text was last read as, or a place where what it names may be found.
+/// What a value's text was last read as.
 #[derive(Drop)]
 enum Kept {
     Nothing,
@@ -140,7 +139,6 @@ enum Kept {
     Tcl9(i64),
     List(List),
     Dict(Dict),
-    Place(Cell<usize>),
 }
 
 /// A value of the language, which contracts see as its text: the list of its bytes in UTF-8, of
@@ -519,40 +517,22 @@ impl Value {
         self.text(alloc)
     }
 
-    /// The same value, which can keep a place from now on, if it keeps nothing else.
-    pub fn with_place(self) -> Value
-        ensures { result ≡ self }
-    {
-        let Value { form, kept } = self;
-        let kept = match kept {
-            Kept::Nothing => Kept::Place(Cell::new(0)),
-            other => other,
-        };
-        Value { form, kept }
-    }
-
-    /// The place that was kept last, if it can keep one: where its reading as a script or as an
-    /// expression, or the variable or the command that it names, may be found. It says nothing of
-    /// the text, and may be any: whoever takes it looks at what stands there.
+    /// The place that its text keeps (see [`Text::hint`]), where it is kept as a text: where its
+    /// reading as a script or as an expression, or the variable or the command that it names, was
+    /// found last. It says nothing of the text, and may be any: whoever takes it looks at what
+    /// stands there.
     pub fn place(&self) -> Option<usize> {
-        match &self.kept {
-            Kept::Place(at) => Some(at.get()),
-            _ => None,
+        match &self.form {
+            Form::Text(text) => Some(text.hint()),
+            Form::Empty | Form::Number(_) | Form::List(_) | Form::Dict(_) => None,
         }
     }
 
-    /// Keeps a place, if it can keep one.
+    /// Keeps a place with its text, for all values that share it.
     pub fn keep_place(&self, place: usize) {
-        if let Kept::Place(at) = &self.kept {
-            at.set(place);
+        if let Form::Text(text) = &self.form {
+            text.set_hint(place);
         }
-    }
-
-    /// Keeps a place, in the stead of what its text was last read as.
-    pub fn set_place(&mut self, place: usize)
-        ensures { self.new ≡ self.old }
-    {
-        self.kept = Kept::Place(Cell::new(place));
     }
 }
 
@@ -642,7 +622,6 @@ impl Clone for Kept {
             Kept::Tcl9(n) => Ok(Kept::Tcl9(*n)),
             Kept::List(list) => Ok(Kept::List(list.clone()?)),
             Kept::Dict(dict) => Ok(Kept::Dict(dict.clone()?)),
-            Kept::Place(at) => Ok(Kept::Place(Cell::new(at.get()))),
         }
     }
 }

@@ -3,19 +3,17 @@ ghost use Rattle.std.specs.Prelude.{◌≡◌};
 ghost use Rattle.tcl_variables.specs.Names.{is_simple};
 
 use crate::name::is_simple;
-use std::cell::Cell;
 use std::marker::Model;
 use tcl_text::text::Text;
 
 /// The name of a variable in a script, which contracts see as its text. Its kind is decided when it
 /// is made.
 ///
-/// It keeps at which place of a frame it was found last. That is a hint: whoever takes it looks
-/// whether the name stands there. So contracts say nothing of it, and it may be any.
+/// Its text keeps at which place of a frame it was found last. That is a hint: whoever takes it
+/// looks whether the name stands there. So contracts say nothing of it, and it may be any.
 pub struct VariableName {
     text: Text,
     simple: bool,
-    hint: Cell<u32>,
 }
 
 impl Drop for VariableName {
@@ -23,7 +21,6 @@ impl Drop for VariableName {
         let VariableName {
             text: _text,
             simple: _,
-            hint: _,
         } = self;
     }
 }
@@ -45,11 +42,7 @@ impl VariableName {
         ensures { result ≡ text }
     {
         let simple = is_simple(text.as_str());
-        VariableName {
-            text,
-            simple,
-            hint: Cell::new(0),
-        }
+        VariableName { text, simple }
     }
 
     /// Its text.
@@ -74,23 +67,13 @@ impl VariableName {
         self.simple
     }
 
-    /// The same name, which may stand at this place.
-    pub fn with_hint(self, place: usize) -> VariableName
-        ensures { result ≡ self }
-    {
-        self.set_hint(place);
-        self
-    }
-
     /// The place at which it may stand.
-    pub fn hint(&self) -> usize {
-        self.hint.get() as usize
+    pub(crate) fn hint(&self) -> usize {
+        self.text.hint()
     }
 
-    /// Keeps the place at which it stands. One that takes more than four bytes isn't kept.
+    /// Keeps the place at which it stands.
     pub(crate) fn set_hint(&self, place: usize) {
-        if let Ok(place) = u32::try_from(place) {
-            self.hint.set(place);
-        }
+        self.text.set_hint(place);
     }
 }

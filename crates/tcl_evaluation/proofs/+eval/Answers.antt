@@ -291,22 +291,22 @@ words::call_many-words-preserved g t c =
       keeps = keeps-trans c.words.invariant.keeps c.eval_word.ensures.keeps;
     }
 
-pub words::call_many-call_texts-ended-requires : goal.words::call_many-call_texts-ended-requires
-words::call_many-call_texts-ended-requires g t c κs within = (search rules, (search rules, still_running c.args.tree.now c.words.tree c.args.place c.words.invariant.here c.requires.running))
+pub words::call_many-call_texts-requires : goal.words::call_many-call_texts-requires
+words::call_many-call_texts-requires g t c κs within = (search rules, (search rules, still_running c.args.tree.now c.words.tree c.args.place c.words.invariant.here c.requires.running))
 
 pub words::call_many-returns-clause-runs : goal.words::call_many-returns-clause-runs
 words::call_many-returns-clause-runs g t c =
     let none = none_on c.args.words.now c.words.word-index c.words-test.false in
-    IfRan-more c.call_texts-ended.result (EndsFrom (ways g.O.Outside.goes g.O.Outside.loses) c.words.tree c.words.outside c.args.place (λ style. words [] c.as_slice.result.now) c.call_texts-ended.new.tree c.call_texts-ended.new.outside)
-    (EndsFrom (ways g.O.Outside.goes g.O.Outside.loses) c.args.tree.now c.args.outside.now c.args.place (λ style. words (map seen_word c.args.words.now) []) c.call_texts-ended.new.tree c.call_texts-ended.new.outside) (λ e h q style at.
+    IfRan-more c.call_texts.result (EndsFrom (ways g.O.Outside.goes g.O.Outside.loses) c.words.tree c.words.outside c.args.place (λ style. words [] c.as_slice.result.now) c.call_texts.new.tree c.call_texts.new.outside)
+    (EndsFrom (ways g.O.Outside.goes g.O.Outside.loses) c.args.tree.now c.args.outside.now c.args.place (λ style. words (map seen_word c.args.words.now) []) c.call_texts.new.tree c.call_texts.new.outside) (λ e h q style at.
     c.words.invariant.leads q style at _ _ _ (at_prog (ap (λ (ws : List PreparedWord). words (map seen_word ws) c.words.texts.items) none ∙ ap (words []) (sym c.as_slice.ensures.value))
-    (h q style (still_at c.args.tree.now c.words.tree c.args.place q style c.words.invariant.here at)))) c.call_texts-ended.ensures.runs
+    (h q style (still_at c.args.tree.now c.words.tree c.args.place q style c.words.invariant.here at)))) c.call_texts.ensures.runs
 
 pub words::call_many-returns-clause-here : goal.words::call_many-returns-clause-here
-words::call_many-returns-clause-here g t c = here_then c.call_texts-ended.result c.args.tree.now c.words.tree c.call_texts-ended.new.tree c.args.place c.words.invariant.here c.call_texts-ended.ensures.here
+words::call_many-returns-clause-here g t c = here_then c.call_texts.result c.args.tree.now c.words.tree c.call_texts.new.tree c.args.place c.words.invariant.here c.call_texts.ensures.here
 
 pub words::call_many-returns-clause-keeps : goal.words::call_many-returns-clause-keeps
-words::call_many-returns-clause-keeps g t c = keeps-trans c.words.invariant.keeps c.call_texts-ended.ensures.keeps
+words::call_many-returns-clause-keeps g t c = keeps-trans c.words.invariant.keeps c.call_texts.ensures.keeps
 
 -- two words
 
@@ -350,8 +350,8 @@ words::call_two-returns-in_err-second_text-clause-here g t c =
 pub words::call_two-returns-in_err-second_text-clause-keeps : goal.words::call_two-returns-in_err-second_text-clause-keeps
 words::call_two-returns-in_err-second_text-clause-keeps g t c = keeps-trans c.eval_word.ensures.keeps c.eval_word-2.ensures.keeps
 
-pub words::call_two-call_texts-ended-requires : goal.words::call_two-call_texts-ended-requires
-words::call_two-call_texts-ended-requires g t c κs within = (search rules, (search rules, still_running c.args.tree.now c.eval_word-2.new.tree c.args.place (here-trans c.args.tree.now c.eval_word.new.tree c.eval_word-2.new.tree c.args.place (here_text c.eval_word.result c.in_ok-first_text.first_text c.args.tree.now c.eval_word.new.tree c.args.place c.in_ok-first_text.ensures.text c.eval_word.ensures.here) (here_text c.eval_word-2.result c.in_ok-second_text.second_text c.eval_word.new.tree c.eval_word-2.new.tree c.args.place c.in_ok-second_text.ensures.text c.eval_word-2.ensures.here)) c.requires.running))
+pub words::call_two-call_texts-requires : goal.words::call_two-call_texts-requires
+words::call_two-call_texts-requires g t c κs within = (search rules, (search rules, still_running c.args.tree.now c.eval_word-2.new.tree c.args.place (here-trans c.args.tree.now c.eval_word.new.tree c.eval_word-2.new.tree c.args.place (here_text c.eval_word.result c.in_ok-first_text.first_text c.args.tree.now c.eval_word.new.tree c.args.place c.in_ok-first_text.ensures.text c.eval_word.ensures.here) (here_text c.eval_word-2.result c.in_ok-second_text.second_text c.eval_word.new.tree c.eval_word-2.new.tree c.args.place c.in_ok-second_text.ensures.text c.eval_word-2.ensures.here)) c.requires.running))
 
 pub words::call_two-returns-clause-runs : goal.words::call_two-returns-clause-runs
 words::call_two-returns-clause-runs g t c =
@@ -359,20 +359,20 @@ words::call_two-returns-clause-runs g t c =
     let single = subst AreSingle is c.requires.single in
     let x1 = ran_text c.eval_word.result c.in_ok-first_text.first_text (EndsFrom (ways g.O.Outside.goes g.O.Outside.loses) c.args.tree.now c.args.outside.now c.args.place (λ style. parts (seen_word c.first-item.result).parts [] []) c.eval_word.new.tree c.eval_word.new.outside) c.in_ok-first_text.ensures.text c.eval_word.ensures.runs in
     let x2 = ran_text c.eval_word-2.result c.in_ok-second_text.second_text (EndsFrom (ways g.O.Outside.goes g.O.Outside.loses) c.eval_word.new.tree c.eval_word.new.outside c.args.place (λ style. parts (seen_word c.second-item.result).parts [] []) c.eval_word-2.new.tree c.eval_word-2.new.outside) c.in_ok-second_text.ensures.text c.eval_word-2.ensures.runs in
-    IfRan-more c.call_texts-ended.result (EndsFrom (ways g.O.Outside.goes g.O.Outside.loses) c.eval_word-2.new.tree c.eval_word-2.new.outside c.args.place (λ style. words [] (c.in_ok-first_text.first_text ∷ c.in_ok-second_text.second_text ∷ [])) c.call_texts-ended.new.tree c.call_texts-ended.new.outside)
-    (EndsFrom (ways g.O.Outside.goes g.O.Outside.loses) c.args.tree.now c.args.outside.now c.args.place (λ style. words (map seen_word c.args.words.now) []) c.call_texts-ended.new.tree c.call_texts-ended.new.outside) (λ e h q style at.
+    IfRan-more c.call_texts.result (EndsFrom (ways g.O.Outside.goes g.O.Outside.loses) c.eval_word-2.new.tree c.eval_word-2.new.outside c.args.place (λ style. words [] (c.in_ok-first_text.first_text ∷ c.in_ok-second_text.second_text ∷ [])) c.call_texts.new.tree c.call_texts.new.outside)
+    (EndsFrom (ways g.O.Outside.goes g.O.Outside.loses) c.args.tree.now c.args.outside.now c.args.place (λ style. words (map seen_word c.args.words.now) []) c.call_texts.new.tree c.call_texts.new.outside) (λ e h q style at.
     let at1 = still_at c.args.tree.now c.eval_word.new.tree c.args.place q style (here_text c.eval_word.result c.in_ok-first_text.first_text c.args.tree.now c.eval_word.new.tree c.args.place c.in_ok-first_text.ensures.text c.eval_word.ensures.here) at in
     let at2 = still_at c.eval_word.new.tree c.eval_word-2.new.tree c.args.place q style (here_text c.eval_word-2.result c.in_ok-second_text.second_text c.eval_word.new.tree c.eval_word-2.new.tree c.args.place c.in_ok-second_text.ensures.text c.eval_word-2.ensures.here) at1 in
     at_prog (ap (λ (ws : List WordRead). words ws []) is)
     (Steps.single_goes style (seen_word c.first-item.result) _ [] x1.0 c.in_ok-first_text.first_text single.0 x1.2 x1.3 (x1.1 q style at)
     (Steps.single_goes style (seen_word c.second-item.result) _ (c.in_ok-first_text.first_text ∷ []) x2.0 c.in_ok-second_text.second_text single.1.0 x2.2 x2.3 (x2.1 q style at1)
-    (h q style at2)))) c.call_texts-ended.ensures.runs
+    (h q style at2)))) c.call_texts.ensures.runs
 
 pub words::call_two-returns-clause-here : goal.words::call_two-returns-clause-here
-words::call_two-returns-clause-here g t c = here_then c.call_texts-ended.result c.args.tree.now c.eval_word-2.new.tree c.call_texts-ended.new.tree c.args.place (here-trans c.args.tree.now c.eval_word.new.tree c.eval_word-2.new.tree c.args.place (here_text c.eval_word.result c.in_ok-first_text.first_text c.args.tree.now c.eval_word.new.tree c.args.place c.in_ok-first_text.ensures.text c.eval_word.ensures.here) (here_text c.eval_word-2.result c.in_ok-second_text.second_text c.eval_word.new.tree c.eval_word-2.new.tree c.args.place c.in_ok-second_text.ensures.text c.eval_word-2.ensures.here)) c.call_texts-ended.ensures.here
+words::call_two-returns-clause-here g t c = here_then c.call_texts.result c.args.tree.now c.eval_word-2.new.tree c.call_texts.new.tree c.args.place (here-trans c.args.tree.now c.eval_word.new.tree c.eval_word-2.new.tree c.args.place (here_text c.eval_word.result c.in_ok-first_text.first_text c.args.tree.now c.eval_word.new.tree c.args.place c.in_ok-first_text.ensures.text c.eval_word.ensures.here) (here_text c.eval_word-2.result c.in_ok-second_text.second_text c.eval_word.new.tree c.eval_word-2.new.tree c.args.place c.in_ok-second_text.ensures.text c.eval_word-2.ensures.here)) c.call_texts.ensures.here
 
 pub words::call_two-returns-clause-keeps : goal.words::call_two-returns-clause-keeps
-words::call_two-returns-clause-keeps g t c = keeps-trans (keeps-trans c.eval_word.ensures.keeps c.eval_word-2.ensures.keeps) c.call_texts-ended.ensures.keeps
+words::call_two-returns-clause-keeps g t c = keeps-trans (keeps-trans c.eval_word.ensures.keeps c.eval_word-2.ensures.keeps) c.call_texts.ensures.keeps
 
 -- three words
 
@@ -444,8 +444,8 @@ words::call_three-returns-in_err-third_text-clause-here g t c =
 pub words::call_three-returns-in_err-third_text-clause-keeps : goal.words::call_three-returns-in_err-third_text-clause-keeps
 words::call_three-returns-in_err-third_text-clause-keeps g t c = keeps-trans (keeps-trans c.eval_word.ensures.keeps c.eval_word-2.ensures.keeps) c.eval_word-3.ensures.keeps
 
-pub words::call_three-call_texts-ended-requires : goal.words::call_three-call_texts-ended-requires
-words::call_three-call_texts-ended-requires g t c κs within = (search rules, (search rules, still_running c.args.tree.now c.eval_word-3.new.tree c.args.place (here-trans c.args.tree.now c.eval_word-2.new.tree c.eval_word-3.new.tree c.args.place (here-trans c.args.tree.now c.eval_word.new.tree c.eval_word-2.new.tree c.args.place (here_text c.eval_word.result c.in_ok-first_text.first_text c.args.tree.now c.eval_word.new.tree c.args.place c.in_ok-first_text.ensures.text c.eval_word.ensures.here) (here_text c.eval_word-2.result c.in_ok-second_text.second_text c.eval_word.new.tree c.eval_word-2.new.tree c.args.place c.in_ok-second_text.ensures.text c.eval_word-2.ensures.here)) (here_text c.eval_word-3.result c.in_ok-third_text.third_text c.eval_word-2.new.tree c.eval_word-3.new.tree c.args.place c.in_ok-third_text.ensures.text c.eval_word-3.ensures.here)) c.requires.running))
+pub words::call_three-call_texts-requires : goal.words::call_three-call_texts-requires
+words::call_three-call_texts-requires g t c κs within = (search rules, (search rules, still_running c.args.tree.now c.eval_word-3.new.tree c.args.place (here-trans c.args.tree.now c.eval_word-2.new.tree c.eval_word-3.new.tree c.args.place (here-trans c.args.tree.now c.eval_word.new.tree c.eval_word-2.new.tree c.args.place (here_text c.eval_word.result c.in_ok-first_text.first_text c.args.tree.now c.eval_word.new.tree c.args.place c.in_ok-first_text.ensures.text c.eval_word.ensures.here) (here_text c.eval_word-2.result c.in_ok-second_text.second_text c.eval_word.new.tree c.eval_word-2.new.tree c.args.place c.in_ok-second_text.ensures.text c.eval_word-2.ensures.here)) (here_text c.eval_word-3.result c.in_ok-third_text.third_text c.eval_word-2.new.tree c.eval_word-3.new.tree c.args.place c.in_ok-third_text.ensures.text c.eval_word-3.ensures.here)) c.requires.running))
 
 pub words::call_three-returns-clause-runs : goal.words::call_three-returns-clause-runs
 words::call_three-returns-clause-runs g t c =
@@ -454,8 +454,8 @@ words::call_three-returns-clause-runs g t c =
     let x1 = ran_text c.eval_word.result c.in_ok-first_text.first_text (EndsFrom (ways g.O.Outside.goes g.O.Outside.loses) c.args.tree.now c.args.outside.now c.args.place (λ style. parts (seen_word c.first-item.result).parts [] []) c.eval_word.new.tree c.eval_word.new.outside) c.in_ok-first_text.ensures.text c.eval_word.ensures.runs in
     let x2 = ran_text c.eval_word-2.result c.in_ok-second_text.second_text (EndsFrom (ways g.O.Outside.goes g.O.Outside.loses) c.eval_word.new.tree c.eval_word.new.outside c.args.place (λ style. parts (seen_word c.second-item.result).parts [] []) c.eval_word-2.new.tree c.eval_word-2.new.outside) c.in_ok-second_text.ensures.text c.eval_word-2.ensures.runs in
     let x3 = ran_text c.eval_word-3.result c.in_ok-third_text.third_text (EndsFrom (ways g.O.Outside.goes g.O.Outside.loses) c.eval_word-2.new.tree c.eval_word-2.new.outside c.args.place (λ style. parts (seen_word c.third-item.result).parts [] []) c.eval_word-3.new.tree c.eval_word-3.new.outside) c.in_ok-third_text.ensures.text c.eval_word-3.ensures.runs in
-    IfRan-more c.call_texts-ended.result (EndsFrom (ways g.O.Outside.goes g.O.Outside.loses) c.eval_word-3.new.tree c.eval_word-3.new.outside c.args.place (λ style. words [] (c.in_ok-first_text.first_text ∷ c.in_ok-second_text.second_text ∷ c.in_ok-third_text.third_text ∷ [])) c.call_texts-ended.new.tree c.call_texts-ended.new.outside)
-    (EndsFrom (ways g.O.Outside.goes g.O.Outside.loses) c.args.tree.now c.args.outside.now c.args.place (λ style. words (map seen_word c.args.words.now) []) c.call_texts-ended.new.tree c.call_texts-ended.new.outside) (λ e h q style at.
+    IfRan-more c.call_texts.result (EndsFrom (ways g.O.Outside.goes g.O.Outside.loses) c.eval_word-3.new.tree c.eval_word-3.new.outside c.args.place (λ style. words [] (c.in_ok-first_text.first_text ∷ c.in_ok-second_text.second_text ∷ c.in_ok-third_text.third_text ∷ [])) c.call_texts.new.tree c.call_texts.new.outside)
+    (EndsFrom (ways g.O.Outside.goes g.O.Outside.loses) c.args.tree.now c.args.outside.now c.args.place (λ style. words (map seen_word c.args.words.now) []) c.call_texts.new.tree c.call_texts.new.outside) (λ e h q style at.
     let at1 = still_at c.args.tree.now c.eval_word.new.tree c.args.place q style (here_text c.eval_word.result c.in_ok-first_text.first_text c.args.tree.now c.eval_word.new.tree c.args.place c.in_ok-first_text.ensures.text c.eval_word.ensures.here) at in
     let at2 = still_at c.eval_word.new.tree c.eval_word-2.new.tree c.args.place q style (here_text c.eval_word-2.result c.in_ok-second_text.second_text c.eval_word.new.tree c.eval_word-2.new.tree c.args.place c.in_ok-second_text.ensures.text c.eval_word-2.ensures.here) at1 in
     let at3 = still_at c.eval_word-2.new.tree c.eval_word-3.new.tree c.args.place q style (here_text c.eval_word-3.result c.in_ok-third_text.third_text c.eval_word-2.new.tree c.eval_word-3.new.tree c.args.place c.in_ok-third_text.ensures.text c.eval_word-3.ensures.here) at2 in
@@ -463,13 +463,13 @@ words::call_three-returns-clause-runs g t c =
     (Steps.single_goes style (seen_word c.first-item.result) _ [] x1.0 c.in_ok-first_text.first_text single.0 x1.2 x1.3 (x1.1 q style at)
     (Steps.single_goes style (seen_word c.second-item.result) _ (c.in_ok-first_text.first_text ∷ []) x2.0 c.in_ok-second_text.second_text single.1.0 x2.2 x2.3 (x2.1 q style at1)
     (Steps.single_goes style (seen_word c.third-item.result) _ (c.in_ok-first_text.first_text ∷ c.in_ok-second_text.second_text ∷ []) x3.0 c.in_ok-third_text.third_text single.1.1.0 x3.2 x3.3 (x3.1 q style at2)
-    (h q style at3))))) c.call_texts-ended.ensures.runs
+    (h q style at3))))) c.call_texts.ensures.runs
 
 pub words::call_three-returns-clause-here : goal.words::call_three-returns-clause-here
-words::call_three-returns-clause-here g t c = here_then c.call_texts-ended.result c.args.tree.now c.eval_word-3.new.tree c.call_texts-ended.new.tree c.args.place (here-trans c.args.tree.now c.eval_word-2.new.tree c.eval_word-3.new.tree c.args.place (here-trans c.args.tree.now c.eval_word.new.tree c.eval_word-2.new.tree c.args.place (here_text c.eval_word.result c.in_ok-first_text.first_text c.args.tree.now c.eval_word.new.tree c.args.place c.in_ok-first_text.ensures.text c.eval_word.ensures.here) (here_text c.eval_word-2.result c.in_ok-second_text.second_text c.eval_word.new.tree c.eval_word-2.new.tree c.args.place c.in_ok-second_text.ensures.text c.eval_word-2.ensures.here)) (here_text c.eval_word-3.result c.in_ok-third_text.third_text c.eval_word-2.new.tree c.eval_word-3.new.tree c.args.place c.in_ok-third_text.ensures.text c.eval_word-3.ensures.here)) c.call_texts-ended.ensures.here
+words::call_three-returns-clause-here g t c = here_then c.call_texts.result c.args.tree.now c.eval_word-3.new.tree c.call_texts.new.tree c.args.place (here-trans c.args.tree.now c.eval_word-2.new.tree c.eval_word-3.new.tree c.args.place (here-trans c.args.tree.now c.eval_word.new.tree c.eval_word-2.new.tree c.args.place (here_text c.eval_word.result c.in_ok-first_text.first_text c.args.tree.now c.eval_word.new.tree c.args.place c.in_ok-first_text.ensures.text c.eval_word.ensures.here) (here_text c.eval_word-2.result c.in_ok-second_text.second_text c.eval_word.new.tree c.eval_word-2.new.tree c.args.place c.in_ok-second_text.ensures.text c.eval_word-2.ensures.here)) (here_text c.eval_word-3.result c.in_ok-third_text.third_text c.eval_word-2.new.tree c.eval_word-3.new.tree c.args.place c.in_ok-third_text.ensures.text c.eval_word-3.ensures.here)) c.call_texts.ensures.here
 
 pub words::call_three-returns-clause-keeps : goal.words::call_three-returns-clause-keeps
-words::call_three-returns-clause-keeps g t c = keeps-trans (keeps-trans (keeps-trans c.eval_word.ensures.keeps c.eval_word-2.ensures.keeps) c.eval_word-3.ensures.keeps) c.call_texts-ended.ensures.keeps
+words::call_three-returns-clause-keeps g t c = keeps-trans (keeps-trans (keeps-trans c.eval_word.ensures.keeps c.eval_word-2.ensures.keeps) c.eval_word-3.ensures.keeps) c.call_texts.ensures.keeps
 
 -- four words
 
@@ -572,8 +572,8 @@ words::call_four-returns-in_err-fourth_text-clause-here g t c =
 pub words::call_four-returns-in_err-fourth_text-clause-keeps : goal.words::call_four-returns-in_err-fourth_text-clause-keeps
 words::call_four-returns-in_err-fourth_text-clause-keeps g t c = keeps-trans (keeps-trans (keeps-trans c.eval_word.ensures.keeps c.eval_word-2.ensures.keeps) c.eval_word-3.ensures.keeps) c.eval_word-4.ensures.keeps
 
-pub words::call_four-call_texts-ended-requires : goal.words::call_four-call_texts-ended-requires
-words::call_four-call_texts-ended-requires g t c κs within = (search rules, (search rules, still_running c.args.tree.now c.eval_word-4.new.tree c.args.place (here-trans c.args.tree.now c.eval_word-3.new.tree c.eval_word-4.new.tree c.args.place (here-trans c.args.tree.now c.eval_word-2.new.tree c.eval_word-3.new.tree c.args.place (here-trans c.args.tree.now c.eval_word.new.tree c.eval_word-2.new.tree c.args.place (here_text c.eval_word.result c.in_ok-first_text.first_text c.args.tree.now c.eval_word.new.tree c.args.place c.in_ok-first_text.ensures.text c.eval_word.ensures.here) (here_text c.eval_word-2.result c.in_ok-second_text.second_text c.eval_word.new.tree c.eval_word-2.new.tree c.args.place c.in_ok-second_text.ensures.text c.eval_word-2.ensures.here)) (here_text c.eval_word-3.result c.in_ok-third_text.third_text c.eval_word-2.new.tree c.eval_word-3.new.tree c.args.place c.in_ok-third_text.ensures.text c.eval_word-3.ensures.here)) (here_text c.eval_word-4.result c.in_ok-fourth_text.fourth_text c.eval_word-3.new.tree c.eval_word-4.new.tree c.args.place c.in_ok-fourth_text.ensures.text c.eval_word-4.ensures.here)) c.requires.running))
+pub words::call_four-call_texts-requires : goal.words::call_four-call_texts-requires
+words::call_four-call_texts-requires g t c κs within = (search rules, (search rules, still_running c.args.tree.now c.eval_word-4.new.tree c.args.place (here-trans c.args.tree.now c.eval_word-3.new.tree c.eval_word-4.new.tree c.args.place (here-trans c.args.tree.now c.eval_word-2.new.tree c.eval_word-3.new.tree c.args.place (here-trans c.args.tree.now c.eval_word.new.tree c.eval_word-2.new.tree c.args.place (here_text c.eval_word.result c.in_ok-first_text.first_text c.args.tree.now c.eval_word.new.tree c.args.place c.in_ok-first_text.ensures.text c.eval_word.ensures.here) (here_text c.eval_word-2.result c.in_ok-second_text.second_text c.eval_word.new.tree c.eval_word-2.new.tree c.args.place c.in_ok-second_text.ensures.text c.eval_word-2.ensures.here)) (here_text c.eval_word-3.result c.in_ok-third_text.third_text c.eval_word-2.new.tree c.eval_word-3.new.tree c.args.place c.in_ok-third_text.ensures.text c.eval_word-3.ensures.here)) (here_text c.eval_word-4.result c.in_ok-fourth_text.fourth_text c.eval_word-3.new.tree c.eval_word-4.new.tree c.args.place c.in_ok-fourth_text.ensures.text c.eval_word-4.ensures.here)) c.requires.running))
 
 pub words::call_four-returns-clause-runs : goal.words::call_four-returns-clause-runs
 words::call_four-returns-clause-runs g t c =
@@ -583,8 +583,8 @@ words::call_four-returns-clause-runs g t c =
     let x2 = ran_text c.eval_word-2.result c.in_ok-second_text.second_text (EndsFrom (ways g.O.Outside.goes g.O.Outside.loses) c.eval_word.new.tree c.eval_word.new.outside c.args.place (λ style. parts (seen_word c.second-item.result).parts [] []) c.eval_word-2.new.tree c.eval_word-2.new.outside) c.in_ok-second_text.ensures.text c.eval_word-2.ensures.runs in
     let x3 = ran_text c.eval_word-3.result c.in_ok-third_text.third_text (EndsFrom (ways g.O.Outside.goes g.O.Outside.loses) c.eval_word-2.new.tree c.eval_word-2.new.outside c.args.place (λ style. parts (seen_word c.third-item.result).parts [] []) c.eval_word-3.new.tree c.eval_word-3.new.outside) c.in_ok-third_text.ensures.text c.eval_word-3.ensures.runs in
     let x4 = ran_text c.eval_word-4.result c.in_ok-fourth_text.fourth_text (EndsFrom (ways g.O.Outside.goes g.O.Outside.loses) c.eval_word-3.new.tree c.eval_word-3.new.outside c.args.place (λ style. parts (seen_word c.fourth-item.result).parts [] []) c.eval_word-4.new.tree c.eval_word-4.new.outside) c.in_ok-fourth_text.ensures.text c.eval_word-4.ensures.runs in
-    IfRan-more c.call_texts-ended.result (EndsFrom (ways g.O.Outside.goes g.O.Outside.loses) c.eval_word-4.new.tree c.eval_word-4.new.outside c.args.place (λ style. words [] (c.in_ok-first_text.first_text ∷ c.in_ok-second_text.second_text ∷ c.in_ok-third_text.third_text ∷ c.in_ok-fourth_text.fourth_text ∷ [])) c.call_texts-ended.new.tree c.call_texts-ended.new.outside)
-    (EndsFrom (ways g.O.Outside.goes g.O.Outside.loses) c.args.tree.now c.args.outside.now c.args.place (λ style. words (map seen_word c.args.words.now) []) c.call_texts-ended.new.tree c.call_texts-ended.new.outside) (λ e h q style at.
+    IfRan-more c.call_texts.result (EndsFrom (ways g.O.Outside.goes g.O.Outside.loses) c.eval_word-4.new.tree c.eval_word-4.new.outside c.args.place (λ style. words [] (c.in_ok-first_text.first_text ∷ c.in_ok-second_text.second_text ∷ c.in_ok-third_text.third_text ∷ c.in_ok-fourth_text.fourth_text ∷ [])) c.call_texts.new.tree c.call_texts.new.outside)
+    (EndsFrom (ways g.O.Outside.goes g.O.Outside.loses) c.args.tree.now c.args.outside.now c.args.place (λ style. words (map seen_word c.args.words.now) []) c.call_texts.new.tree c.call_texts.new.outside) (λ e h q style at.
     let at1 = still_at c.args.tree.now c.eval_word.new.tree c.args.place q style (here_text c.eval_word.result c.in_ok-first_text.first_text c.args.tree.now c.eval_word.new.tree c.args.place c.in_ok-first_text.ensures.text c.eval_word.ensures.here) at in
     let at2 = still_at c.eval_word.new.tree c.eval_word-2.new.tree c.args.place q style (here_text c.eval_word-2.result c.in_ok-second_text.second_text c.eval_word.new.tree c.eval_word-2.new.tree c.args.place c.in_ok-second_text.ensures.text c.eval_word-2.ensures.here) at1 in
     let at3 = still_at c.eval_word-2.new.tree c.eval_word-3.new.tree c.args.place q style (here_text c.eval_word-3.result c.in_ok-third_text.third_text c.eval_word-2.new.tree c.eval_word-3.new.tree c.args.place c.in_ok-third_text.ensures.text c.eval_word-3.ensures.here) at2 in
@@ -594,13 +594,13 @@ words::call_four-returns-clause-runs g t c =
     (Steps.single_goes style (seen_word c.second-item.result) _ (c.in_ok-first_text.first_text ∷ []) x2.0 c.in_ok-second_text.second_text single.1.0 x2.2 x2.3 (x2.1 q style at1)
     (Steps.single_goes style (seen_word c.third-item.result) _ (c.in_ok-first_text.first_text ∷ c.in_ok-second_text.second_text ∷ []) x3.0 c.in_ok-third_text.third_text single.1.1.0 x3.2 x3.3 (x3.1 q style at2)
     (Steps.single_goes style (seen_word c.fourth-item.result) _ (c.in_ok-first_text.first_text ∷ c.in_ok-second_text.second_text ∷ c.in_ok-third_text.third_text ∷ []) x4.0 c.in_ok-fourth_text.fourth_text single.1.1.1.0 x4.2 x4.3 (x4.1 q style at3)
-    (h q style at4)))))) c.call_texts-ended.ensures.runs
+    (h q style at4)))))) c.call_texts.ensures.runs
 
 pub words::call_four-returns-clause-here : goal.words::call_four-returns-clause-here
-words::call_four-returns-clause-here g t c = here_then c.call_texts-ended.result c.args.tree.now c.eval_word-4.new.tree c.call_texts-ended.new.tree c.args.place (here-trans c.args.tree.now c.eval_word-3.new.tree c.eval_word-4.new.tree c.args.place (here-trans c.args.tree.now c.eval_word-2.new.tree c.eval_word-3.new.tree c.args.place (here-trans c.args.tree.now c.eval_word.new.tree c.eval_word-2.new.tree c.args.place (here_text c.eval_word.result c.in_ok-first_text.first_text c.args.tree.now c.eval_word.new.tree c.args.place c.in_ok-first_text.ensures.text c.eval_word.ensures.here) (here_text c.eval_word-2.result c.in_ok-second_text.second_text c.eval_word.new.tree c.eval_word-2.new.tree c.args.place c.in_ok-second_text.ensures.text c.eval_word-2.ensures.here)) (here_text c.eval_word-3.result c.in_ok-third_text.third_text c.eval_word-2.new.tree c.eval_word-3.new.tree c.args.place c.in_ok-third_text.ensures.text c.eval_word-3.ensures.here)) (here_text c.eval_word-4.result c.in_ok-fourth_text.fourth_text c.eval_word-3.new.tree c.eval_word-4.new.tree c.args.place c.in_ok-fourth_text.ensures.text c.eval_word-4.ensures.here)) c.call_texts-ended.ensures.here
+words::call_four-returns-clause-here g t c = here_then c.call_texts.result c.args.tree.now c.eval_word-4.new.tree c.call_texts.new.tree c.args.place (here-trans c.args.tree.now c.eval_word-3.new.tree c.eval_word-4.new.tree c.args.place (here-trans c.args.tree.now c.eval_word-2.new.tree c.eval_word-3.new.tree c.args.place (here-trans c.args.tree.now c.eval_word.new.tree c.eval_word-2.new.tree c.args.place (here_text c.eval_word.result c.in_ok-first_text.first_text c.args.tree.now c.eval_word.new.tree c.args.place c.in_ok-first_text.ensures.text c.eval_word.ensures.here) (here_text c.eval_word-2.result c.in_ok-second_text.second_text c.eval_word.new.tree c.eval_word-2.new.tree c.args.place c.in_ok-second_text.ensures.text c.eval_word-2.ensures.here)) (here_text c.eval_word-3.result c.in_ok-third_text.third_text c.eval_word-2.new.tree c.eval_word-3.new.tree c.args.place c.in_ok-third_text.ensures.text c.eval_word-3.ensures.here)) (here_text c.eval_word-4.result c.in_ok-fourth_text.fourth_text c.eval_word-3.new.tree c.eval_word-4.new.tree c.args.place c.in_ok-fourth_text.ensures.text c.eval_word-4.ensures.here)) c.call_texts.ensures.here
 
 pub words::call_four-returns-clause-keeps : goal.words::call_four-returns-clause-keeps
-words::call_four-returns-clause-keeps g t c = keeps-trans (keeps-trans (keeps-trans (keeps-trans c.eval_word.ensures.keeps c.eval_word-2.ensures.keeps) c.eval_word-3.ensures.keeps) c.eval_word-4.ensures.keeps) c.call_texts-ended.ensures.keeps
+words::call_four-returns-clause-keeps g t c = keeps-trans (keeps-trans (keeps-trans (keeps-trans c.eval_word.ensures.keeps c.eval_word-2.ensures.keeps) c.eval_word-3.ensures.keeps) c.eval_word-4.ensures.keeps) c.call_texts.ensures.keeps
 
 -- words of any kind
 
@@ -1520,16 +1520,16 @@ pub expressions::if_first-returns-then-branch-clause-runs : goal.expressions::if
 expressions::if_first-returns-then-branch-clause-runs g t c =
     let item = item_on c.deref-branch-items.result.now c.tests.branch-index c.branch-item.result c.tests-test.true c.branch-item.is in
     let holds = subst (TestGoes (ways g.O.Outside.goes g.O.Outside.loses) c.tests.tree c.tests.outside c.args.place c.deref.result.now c.condition.new.tree c.condition.new.outside) c.if-branch.true c.in_ok-condition.ensures.runs in
-    IfRan-more c.eval_value-ended.result
-    (EndsAt (ways g.O.Outside.goes g.O.Outside.loses) c.condition.new.tree c.condition.new.outside c.args.place (λ style. script c.in_ok-body.body) c.eval_value-ended.new.tree c.eval_value-ended.new.outside)
-    (EndsFrom (ways g.O.Outside.goes g.O.Outside.loses) c.args.tree.now c.args.outside.now c.args.place (λ style. if_first style c.args.args.now) c.eval_value-ended.new.tree c.eval_value-ended.new.outside)
+    IfRan-more c.eval_value.result
+    (EndsAt (ways g.O.Outside.goes g.O.Outside.loses) c.condition.new.tree c.condition.new.outside c.args.place (λ style. script c.in_ok-body.body) c.eval_value.new.tree c.eval_value.new.outside)
+    (EndsFrom (ways g.O.Outside.goes g.O.Outside.loses) c.args.tree.now c.args.outside.now c.args.place (λ style. if_first style c.args.args.now) c.eval_value.new.tree c.eval_value.new.outside)
     (λ e h q style at.
     let here = still_at c.args.tree.now c.tests.tree c.args.place q style c.tests.invariant.here at in
     let after = still_at _ _ c.args.place q style c.in_ok-condition.ensures.here here in
     let same = c.integers.ensures ∙ here.style_is in
     c.tests.invariant.leads q style at _ _ _ (at_prog (ap (λ (bs : List Branch). first_true style (tests_of bs) (option_copied c.in-Some.branches.last)) item)
     (holds q style here c.branch-item.result.test.now (Conditions.kept_behind c.integers.result style c.branch-item.result.test.now c.in_ok-test.test.value c.deref.result.now c.deref.ensures same c.in_ok-test.ensures.read) _ _ _ _
-    (goes_done {i = Script c.branch-item.result.body.now} (at_prog (ap script (sym c.in_ok-body.ensures.cases)) (h q style (record { names = after.names; style_is = after.style_is }))))))) c.eval_value-ended.ensures.runs
+    (goes_done {i = Script c.branch-item.result.body.now} (at_prog (ap script (sym c.in_ok-body.ensures.cases)) (h q style (record { names = after.names; style_is = after.style_is }))))))) c.eval_value.ensures.runs
 
 pub expressions::if_first-tests-preserved : goal.expressions::if_first-tests-preserved
 expressions::if_first-tests-preserved g t c =
@@ -1560,14 +1560,14 @@ expressions::if_first-returns-in_err-body-2-clause-runs g t c =
 pub expressions::if_first-returns-clause-runs : goal.expressions::if_first-returns-clause-runs
 expressions::if_first-returns-clause-runs g t c =
     let none = none_on c.deref-branch-items.result.now c.tests.branch-index c.tests-test.false in
-    IfRan-more c.eval_value-ended-2.result
-    (EndsAt (ways g.O.Outside.goes g.O.Outside.loses) c.tests.tree c.tests.outside c.args.place (λ style. script c.in_ok-body-2.body) c.eval_value-ended-2.new.tree c.eval_value-ended-2.new.outside)
-    (EndsFrom (ways g.O.Outside.goes g.O.Outside.loses) c.args.tree.now c.args.outside.now c.args.place (λ style. if_first style c.args.args.now) c.eval_value-ended-2.new.tree c.eval_value-ended-2.new.outside)
+    IfRan-more c.eval_value-2.result
+    (EndsAt (ways g.O.Outside.goes g.O.Outside.loses) c.tests.tree c.tests.outside c.args.place (λ style. script c.in_ok-body-2.body) c.eval_value-2.new.tree c.eval_value-2.new.outside)
+    (EndsFrom (ways g.O.Outside.goes g.O.Outside.loses) c.args.tree.now c.args.outside.now c.args.place (λ style. if_first style c.args.args.now) c.eval_value-2.new.tree c.eval_value-2.new.outside)
     (λ e h q style at.
     let here = still_at c.args.tree.now c.tests.tree c.args.place q style c.tests.invariant.here at in
     c.tests.invariant.leads q style at _ _ _ (at_prog (ap (λ (bs : List Branch). first_true style (tests_of bs) (option_copied c.in-Some.branches.last)) none)
     (Conditions.last_runs style _ c.in-Some-last.last.now (ap option_copied c.in-Some-last.is)
-    (at_prog (ap script (sym c.in_ok-body-2.ensures.cases)) (h q style (record { names = here.names; style_is = here.style_is })))))) c.eval_value-ended-2.ensures.runs
+    (at_prog (ap script (sym c.in_ok-body-2.ensures.cases)) (h q style (record { names = here.names; style_is = here.style_is })))))) c.eval_value-2.ensures.runs
 
 -- turns
 
@@ -2205,14 +2205,14 @@ expressions::if_first-returns-in_err-condition-clause-keeps g t c = keeps-trans 
 pub expressions::if_first-returns-in_err-body-clause-keeps : goal.expressions::if_first-returns-in_err-body-clause-keeps
 expressions::if_first-returns-in_err-body-clause-keeps g t c = keeps-trans c.tests.invariant.keeps c.condition.ensures.keeps
 
-pub expressions::if_first-eval_value-ended-requires : goal.expressions::if_first-eval_value-ended-requires
-expressions::if_first-eval_value-ended-requires g t c κs within = (search rules, (search rules, let r = still_running c.args.tree.now c.condition.new.tree c.args.place (here-trans c.args.tree.now c.tests.tree c.condition.new.tree c.args.place c.tests.invariant.here c.in_ok-condition.ensures.here) c.requires in (r.0, r.1)))
+pub expressions::if_first-eval_value-requires : goal.expressions::if_first-eval_value-requires
+expressions::if_first-eval_value-requires g t c κs within = (search rules, (search rules, let r = still_running c.args.tree.now c.condition.new.tree c.args.place (here-trans c.args.tree.now c.tests.tree c.condition.new.tree c.args.place c.tests.invariant.here c.in_ok-condition.ensures.here) c.requires in (r.0, r.1)))
 
 pub expressions::if_first-returns-then-branch-clause-keeps : goal.expressions::if_first-returns-then-branch-clause-keeps
-expressions::if_first-returns-then-branch-clause-keeps g t c = keeps-trans c.tests.invariant.keeps (keeps-trans c.condition.ensures.keeps c.eval_value-ended.ensures.keeps)
+expressions::if_first-returns-then-branch-clause-keeps g t c = keeps-trans c.tests.invariant.keeps (keeps-trans c.condition.ensures.keeps c.eval_value.ensures.keeps)
 
 pub expressions::if_first-returns-clause-keeps : goal.expressions::if_first-returns-clause-keeps
-expressions::if_first-returns-clause-keeps g t c = keeps-trans c.tests.invariant.keeps c.eval_value-ended-2.ensures.keeps
+expressions::if_first-returns-clause-keeps g t c = keeps-trans c.tests.invariant.keeps c.eval_value-2.ensures.keeps
 
 pub expressions::while_loop-returns-in_err-turn-clause-keeps : goal.expressions::while_loop-returns-in_err-turn-clause-keeps
 expressions::while_loop-returns-in_err-turn-clause-keeps g t c = keeps-trans c.turns.invariant.keeps c.turn.ensures.keeps
@@ -3094,8 +3094,8 @@ expressions::expression-eval_operand-requires g t c κs within = (search rules, 
 pub expressions::while_loop-turn-requires : goal.expressions::while_loop-turn-requires
 expressions::while_loop-turn-requires g t c κs within = (search rules, (search rules, still_running c.args.tree.now c.turns.tree c.args.place c.turns.invariant.here c.requires))
 
-pub expressions::if_first-eval_value-ended-requires-2 : goal.expressions::if_first-eval_value-ended-requires-2
-expressions::if_first-eval_value-ended-requires-2 g t c κs within = (search rules, (search rules, (c.requires.0, still_named c.args.tree.now c.tests.tree c.args.place c.requires.0 c.tests.invariant.here c.requires.1)))
+pub expressions::if_first-eval_value-requires-2 : goal.expressions::if_first-eval_value-requires-2
+expressions::if_first-eval_value-requires-2 g t c κs within = (search rules, (search rules, (c.requires.0, still_named c.args.tree.now c.tests.tree c.args.place c.requires.0 c.tests.invariant.here c.requires.1)))
 
 pub evaluation::eval_commands-returns-in_err-last-clause-here : goal.evaluation::eval_commands-returns-in_err-last-clause-here
 evaluation::eval_commands-returns-in_err-last-clause-here g t c =
@@ -3259,7 +3259,7 @@ pub expressions::if_first-returns-in_err-body-clause-here : goal.expressions::if
 expressions::if_first-returns-in_err-body-clause-here g t c = on_completion c.from_residual-in_err-body.result (IsHere c.args.tree.now c.condition.new.tree c.args.place) (here-trans c.args.tree.now c.tests.tree c.condition.new.tree c.args.place c.tests.invariant.here c.in_ok-condition.ensures.here)
 
 pub expressions::if_first-returns-then-branch-clause-here : goal.expressions::if_first-returns-then-branch-clause-here
-expressions::if_first-returns-then-branch-clause-here g t c = here_then c.eval_value-ended.result c.args.tree.now c.condition.new.tree c.eval_value-ended.new.tree c.args.place (here-trans c.args.tree.now c.tests.tree c.condition.new.tree c.args.place c.tests.invariant.here c.in_ok-condition.ensures.here) c.eval_value-ended.ensures.here
+expressions::if_first-returns-then-branch-clause-here g t c = here_then c.eval_value.result c.args.tree.now c.condition.new.tree c.eval_value.new.tree c.args.place (here-trans c.args.tree.now c.tests.tree c.condition.new.tree c.args.place c.tests.invariant.here c.in_ok-condition.ensures.here) c.eval_value.ensures.here
 
 pub expressions::if_first-returns-in_default-last-clause-here : goal.expressions::if_first-returns-in_default-last-clause-here
 expressions::if_first-returns-in_default-last-clause-here g t c = c.tests.invariant.here
@@ -3268,7 +3268,7 @@ pub expressions::if_first-returns-in_err-body-2-clause-here : goal.expressions::
 expressions::if_first-returns-in_err-body-2-clause-here g t c = on_completion c.from_residual-in_err-body-2.result (IsHere c.args.tree.now c.tests.tree c.args.place) c.tests.invariant.here
 
 pub expressions::if_first-returns-clause-here : goal.expressions::if_first-returns-clause-here
-expressions::if_first-returns-clause-here g t c = here_then c.eval_value-ended-2.result c.args.tree.now c.tests.tree c.eval_value-ended-2.new.tree c.args.place c.tests.invariant.here c.eval_value-ended-2.ensures.here
+expressions::if_first-returns-clause-here g t c = here_then c.eval_value-2.result c.args.tree.now c.tests.tree c.eval_value-2.new.tree c.args.place c.tests.invariant.here c.eval_value-2.ensures.here
 
 pub expressions::turn-returns-in_err-condition-clause-here : goal.expressions::turn-returns-in_err-condition-clause-here
 expressions::turn-returns-in_err-condition-clause-here g t c =

@@ -26,17 +26,17 @@ fn standing<'a>(commands: &'a Commands, place: usize, name: &Text) -> Option<&'a
     None
 }
 
-/// What a name stands for, in less time where it stands at the place that the hint is. Where it is
-/// found elsewhere, the hint is that place from now on.
-fn found_near<'a>(commands: &'a Commands, name: &Text, hint: &mut usize) -> Option<&'a Command>
+/// What a name stands for, in less time where it stands at the place that the name keeps. Where it
+/// is found elsewhere, the name keeps that place.
+fn found_near<'a>(commands: &'a Commands, name: &Text) -> Option<&'a Command>
     ensures { option_copied result ≡ lookup (bytes_eq name.now) commands.now.entries }
 {
-    if let Some(command) = standing(commands, *hint, name) {
+    if let Some(command) = standing(commands, name.hint(), name) {
         return Some(command);
     }
     match commands.get_full(name) {
         Some((place, _, command)) => {
-            *hint = place;
+            name.set_hint(place);
             Some(command)
         }
         None => None,
@@ -64,16 +64,15 @@ impl Tree {
         node.state.commands.get(name)
     }
 
-    /// The same, in less time where the name stands at the place among the commands that the hint
-    /// is. The hint may be any number, since the name that stands there is compared; where the name
-    /// is found elsewhere, the hint is that place from now on. This takes no memory.
-    pub fn command_near(&self, place: Place, name: &Text, hint: &mut usize) -> Option<&Command>
+    /// The same, in less time where the name stands at the place among the commands that its text
+    /// keeps. This takes no memory.
+    pub fn command_near(&self, place: Place, name: &Text) -> Option<&Command>
         ensures { (p : List (List ℕ)) → Names self.now place p →
             option_copied result ≡ option_and_then
             (λ n. command_in n.own name.now) (tree_of self.now p) }
     {
         let node = self.nodes.get(place.key)?;
-        found_near(&node.state.commands, name, hint)
+        found_near(&node.state.commands, name)
     }
 
     /// What a name stands for among the hidden commands of the interpreter that the place names.

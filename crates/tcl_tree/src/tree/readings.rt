@@ -21,9 +21,8 @@ impl Tree {
     ///
     /// # Errors
     /// Want of memory.
-    pub fn script_of(&self, alloc: Global, value: &mut Value) -> Result<Rc<Prepared>, AllocError>
-        ensures read { IfOk result (λ script. script.value ≡ read_script value.old) }
-        ensures same { value.new ≡ value.old }
+    pub fn script_of(&self, alloc: Global, value: &Value) -> Result<Rc<Prepared>, AllocError>
+        ensures { IfOk result (λ script. script.value ≡ read_script value.now) }
     {
         match self.readings.try_borrow_mut() {
             Ok(mut readings) => readings.script_of(alloc, value),

@@ -10,5 +10,5 @@ use Rattle.tcl_run.proofs.steps.read_by_word.Goals as goal
 
 pub returns-clause-read : goal.returns-clause-read
 returns-clause-read c =
-    subst (λ (x : List ℕ). (p : Path) (n : Node Own) → Names c.args.tree.now c.args.place p → tree_of c.args.tree.now p ≡ Some n → Gave frame_message (read n.own.chain.frames x) c.read_named-value.result)
-    c.in_ok-name.ensures c.read_named-value.ensures.read
+    subst (λ (x : List ℕ). (p : Path) (n : Node Own) → Names c.args.tree.now c.args.place p → tree_of c.args.tree.now p ≡ Some n → Gave frame_message (read n.own.chain.frames x) c.read_named.result)
+    c.in_ok-name.ensures c.read_named.ensures.read
