@@ -6,13 +6,11 @@ mod Gathering
 mod Conditions
 mod Dispatching
 mod Entered
-mod Found
 mod Levelling
 mod Looping
 mod Plainly
 mod Requesting
 mod Staying
-pub mod Steps
 mod Targets
 mod Walking
 mod Writing

@@ -13,12 +13,11 @@ use Rattle.tcl_language.specs.Instructions.{Instr, Program}
 use Rattle.tcl_language.specs.Interpreters.{asks_at}
 use Rattle.tcl_language_laws.specs.Language.{language}
 use Rattle.tcl_run.specs.Ends.{Interrupts}
-use Rattle.tcl_run.specs.Plain.{Acts, Does}
 use Rattle.tcl_run.specs.Runs.{Comes, Evaluates, EvaluatesAt, IsAt, IsLoss, IsThere, Proceeds, ProceedsAt, ProceedsIn, Ways}
 use Rattle.tcl_run.specs.Runs.Proceeds.{ended}
 use Rattle.tcl_run.specs.declared.interruption.Interruption.{Interruption}
 use Rattle.tcl_run.proofs.Endings.{IfRan-more, breaks, ran}
-use Rattle.tcl_run.proofs.Proceeding.{at_prog, at_reply, completed, does_proceeds, sees_below, stopped, stopped_by}
+use Rattle.tcl_run.proofs.Proceeding.{at_prog, at_reply, completed, sees_below, stopped, stopped_by}
 use Rattle.tcl_text.specs.declared.integer.Integers.{Integers}
 use Rattle.tcl_tree.specs.Own.{Own}
 use Rattle.tcl_tree.specs.TreeOf.{tree_of}
@@ -26,10 +25,8 @@ use Rattle.tcl_tree.specs.declared.tree.Tree.{Tree as Table}
 use Rattle.tcl_tree.specs.declared.tree.Place.{Place as TablePlace}
 use Rattle.tcl_entries.specs.Looking.{LooksTo, here, looked, GetsTo, GetsToEnd}
 use Rattle.tcl_evaluation.specs.View.{Asks, GoesOn}
-use Rattle.tcl_evaluation.proofs.Steps.{EndsFrom, EndsAt}
-
-there_at : (t : Table) (place : TablePlace) (p : Path) (style : Integers) → IsAt t place p style → IsThere t place p style
-there_at t place p style at = record { names = at.names; style_is = at.style_is }
+use Rattle.tcl_words_at_hand.proofs.Steps.{EndsFrom, EndsAt}
+use Rattle.tcl_words_at_hand.proofs.Plainly.{there_at}
 
 -- what evaluates, and may lose the outside
 pub evaluates_proceeds : {S : Type 0} (ways : Ways S) (t u : Table) (o z : S) (place : TablePlace) (program : Integers → Program) (r : Result Text Interruption) →
@@ -42,11 +39,6 @@ pub evaluates_at_proceeds : {S : Type 0} (ways : Ways S) (t u : Table) (o z : S)
     EvaluatesAt ways.goes t o place program u z r → IsLoss ways.loses o z → ProceedsAt ways t o place program u z r
 evaluates_at_proceeds ways t u o z place program r runs l = ran r (λ e. (p : Path) (style : Integers) → IsThere t place p style → Comes ways.goes (language style) (tree_of t) o p (program style) (tree_of u) z e)
     (EndsAt ways t o place program u z) (λ e h p style at. ended (h p style at)) (λ p style at. stopped_by l) runs
-
--- what evaluates nothing
-pub acts_proceeds : {S : Type 0} (ways : Ways S) (t u : Table) (o : S) (place : TablePlace) (program : Integers → Program) (r : Result Text Interruption) → Acts t place program u r → ProceedsIn ways t o place program u o r
-acts_proceeds ways t u o place program r acts = ran r (λ e. (p : Path) (style : Integers) → IsThere t place p style → Does (program style) (tree_of t) p (tree_of u) e)
-    (EndsFrom ways t o place program u o) (λ e h p style at. does_proceeds (program style) o (h p style (there_at t place p style at))) (λ p style at. stopped) acts
 
 -- ## Programs that begin by looks
 

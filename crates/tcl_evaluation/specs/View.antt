@@ -7,8 +7,8 @@ use Rattle.tcl_core.specs.Runs.{Ending}
 use Rattle.tcl_core.specs.Endings.Reply.{Completed}
 use Rattle.tcl_core.specs.Programs.Prog.{done, inside}
 use Rattle.tcl_core.specs.Programs.Wrap.{Deeper}
-use Rattle.tcl_language.specs.Instructions.Instr.{Commands, Call, Hidden}
-use Rattle.tcl_parser.specs.Words.{WordRead, Reading}
+use Rattle.tcl_language.specs.Instructions.Instr.{Call, Hidden}
+use Rattle.tcl_parser.specs.Words.{WordRead}
 use Rattle.tcl_core.specs.Endings.{leave_proc}
 use Rattle.tcl_flow.specs.View.{completion_of}
 use Rattle.tcl_run.specs.Ends.{IfEnded, IfRan}
@@ -32,10 +32,6 @@ use Rattle.tcl_tree.specs.declared.tree.Place.{Place}
 abbrev pub AreSingle : List WordRead → Type 0
 AreSingle [] = Unit {0}
 AreSingle (w ∷ ws) = (w.expand ≡ false) × AreSingle ws
-
--- a script that was read, one level deeper
-abbrev pub read_so : Reading → Program
-read_so script = inside Deeper (Commands script.commands script.fault []) done
 
 -- a command that is called for a caller elsewhere, one level deeper
 abbrev pub targeted : List (List ℕ) → Program

@@ -12,7 +12,8 @@ ghost use Rattle.tcl_run.specs.Runs.{ways};
 ghost use Rattle.tcl_tree.specs.TreeOf.{tree_of, Names};
 ghost use Rattle.tcl_calls.specs.Words.{opens, IsShort};
 ghost use Rattle.tcl_prepared.specs.Views.{seen_command, seen_part, seen_word};
-ghost use Rattle.tcl_evaluation.specs.View.{PartGoes, PartBreaks, read_so};
+ghost use Rattle.tcl_evaluation.specs.View.{PartGoes, PartBreaks};
+ghost use Rattle.tcl_words_at_hand.specs.Scripts.{read_so};
 
 use crate::words::{call_literals, call_words};
 use std::alloc::Global;
@@ -27,6 +28,9 @@ use tcl_run::steps::{known_short, on_ok, read_named};
 use tcl_text::text::Text;
 use tcl_tree::tree::{Place, Tree};
 use tcl_value::value::Value;
+use tcl_words_at_hand::calls::call_at_hand;
+use tcl_words_at_hand::hands::sum_at_hand;
+use tcl_words_at_hand::sums::count_sum;
 
 /// Evaluates a script that was read, one level deeper.
 ///
@@ -106,7 +110,8 @@ pub fn eval_value<O: Outside>(
     eval_script(tree, alloc, outside, place, &script)
 }
 
-/// Evaluates a script in brackets that was read with the script around it, one level deeper.
+/// Evaluates a script in brackets that was read with the script around it, one level deeper. A sum
+/// that is at hand is only counted.
 ///
 /// # Errors
 /// Those of a script.
@@ -124,6 +129,10 @@ fn eval_bracket<O: Outside>(
     ensures here { OnCompletion result (IsHere tree.old tree.new place) }
     ensures keeps { Keeps O.entries_left tree.old tree.new outside.old outside.new }
 {
+    if let Some(sum) = sum_at_hand(tree, alloc, place, bracket.script()) {
+        count_sum(tree, alloc, outside, place)?;
+        return Ok(sum);
+    }
     eval_script(tree, alloc, outside, place, bracket.script())
 }
 
@@ -156,7 +165,7 @@ fn eval_commands<O: Outside>(
 }
 
 /// Substitutes a command's words from left to right, makes a step and calls it. Words each of which
-/// stands for itself are lent as they are.
+/// stands for itself are lent as they are, and those that are at hand aren't evaluated one by one.
 ///
 /// # Errors
 /// Those of the words; 101 to 104 of a word that is spread; the stop 308; those of the call; want
@@ -181,6 +190,9 @@ fn eval_command<O: Outside>(
             call_literals(tree, alloc, outside, place, literals.words())
         }
         PreparedCommand::General(words) => {
+            if let Some(ended) = call_at_hand(tree, alloc, outside, place, words.as_slice()) {
+                return ended;
+            }
             call_words(tree, alloc, outside, place, words.as_slice())
         }
     }

@@ -23,13 +23,13 @@ use tcl_tree::tree::{Place, Tree};
 use tcl_value::value::Value;
 
 /// The value of an expression that was read. Its parts are substituted as they are needed, from
-/// left to right. Where all of them are numbers at hand, it is computed at once.
+/// left to right.
 ///
 /// # Errors
 /// 111 to 113 and 212 to 216 of the operands; those of what is substituted; want of memory.
 #[cycle(eval)]
 #[inline(never)]
-fn expression<O: Outside>(
+fn compute<O: Outside>(
     tree: &mut Tree,
     alloc: Global,
     outside: &mut O,
@@ -45,9 +45,6 @@ fn expression<O: Outside>(
     ensures keeps { Keeps O.entries_left tree.old tree.new outside.old outside.new }
 {
     let style = tree.integers();
-    if let Some(number) = number_at(tree, place, style, kept) {
-        return Ok(Value::from_int(number));
-    }
     evaluation.restart();
     'parts: loop {
         match next_part(evaluation, alloc, kept, style)? {
@@ -58,6 +55,34 @@ fn expression<O: Outside>(
             Progress::Done(value) => return settle(alloc, style, value),
         }
     }
+}
+
+/// The same. Where all operands are numbers at hand, it is computed at once.
+///
+/// # Errors
+/// 111 to 113 and 212 to 216 of the operands; those of what is substituted; want of memory.
+#[cycle(eval)]
+#[inline(never)]
+fn expression<O: Outside>(
+    tree: &mut Tree,
+    alloc: Global,
+    outside: &mut O,
+    place: Place,
+    kept: &ExprTree,
+) -> Result<Value, Interruption>
+    requires { IsRunning tree.old place }
+    ensures runs { Computes
+        (ways O.goes O.loses) tree.old outside.old place kept.now tree.new outside.new
+        result }
+    ensures here { OnCompletion result (IsHere tree.old tree.new place) }
+    ensures keeps { Keeps O.entries_left tree.old tree.new outside.old outside.new }
+{
+    let style = tree.integers();
+    if let Some(number) = number_at(tree, place, style, kept) {
+        return Ok(Value::from_int(number));
+    }
+    let mut evaluation = Evaluation::new(alloc);
+    compute(tree, alloc, outside, place, &mut evaluation, kept)
 }
 
 /// Whether a condition that was read holds.
@@ -81,7 +106,10 @@ fn condition<O: Outside>(
     ensures keeps { Keeps O.entries_left tree.old tree.new outside.old outside.new }
 {
     let style = tree.integers();
-    let value = on_ok(expression(tree, alloc, outside, place, evaluation, test))?;
+    if let Some(number) = number_at(tree, place, style, test) {
+        return Ok(number != 0);
+    }
+    let value = on_ok(compute(tree, alloc, outside, place, evaluation, test))?;
     holds(alloc, style, value)
 }
 
@@ -110,8 +138,7 @@ pub fn expr<O: Outside>(
     }
     let text = script_of(alloc, args)?;
     let kept = read_expression(tree, alloc, tree.integers(), &text)?;
-    let mut evaluation = Evaluation::new(alloc);
-    expression(tree, alloc, outside, place, &mut evaluation, &kept)
+    expression(tree, alloc, outside, place, &kept)
 }
 
 /// `if expr1 ?then? body1 ?elseif expr2 ?then? body2 ...? ?else? ?bodyN?`: evaluates the first body

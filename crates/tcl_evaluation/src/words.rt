@@ -17,6 +17,8 @@ use tcl_run::outside::Outside;
 use tcl_run::steps::{charge, on_ok};
 use tcl_tree::tree::{Place, Tree};
 use tcl_value::value::Value;
+use tcl_words_at_hand::calls::call_plain_command;
+use tcl_words_at_hand::hands::plain_named;
 
 /// Makes a step and calls the command that the first of these texts names. No texts are no command.
 ///
@@ -62,6 +64,11 @@ pub fn call_literals<O: Outside>(
     ensures here { OnCompletion result (IsHere tree.old tree.new place) }
     ensures keeps { Keeps O.entries_left tree.old tree.new outside.old outside.new }
 {
+    if let [word, args @ ..] = words {
+        if let Some(builtin) = plain_named(tree, alloc, place, word) {
+            return call_plain_command(tree, alloc, outside, place, builtin, args);
+        }
+    }
     call_texts(tree, alloc, outside, place, words)
 }
 

@@ -1,7 +1,7 @@
 -- What an expression comes to where each of its operands is at hand: a literal, or a variable that
 -- holds a value.
-use Rattle.std.specs.Prelude.{◌≡◌, Bool, true, false, nat_le, length, List, [], ◌∷◌, ◌++◌, ℤ, Option, Some, None, Result, Ok}
-use Rattle.std.specs.Prelude.{Err}
+use Rattle.std.specs.Prelude.{◌≡◌, Bool, true, false, nat_le, length, List, [], ◌∷◌, ◌++◌, ℤ}
+use Rattle.std.specs.Prelude.{Option, Some, None, Result, Ok, Err}
 use Rattle.tcl_text.specs.declared.integer.Integers.{Integers}
 use Rattle.tcl_parser.specs.declared.script.Part.{Part}
 use Rattle.tcl_parser.specs.declared.script.Part.TheVariants.{Variable}

@@ -24,8 +24,9 @@ use tcl_value::value::Value;
 const MOST_WAITING: usize = 8;
 
 /// The number that an expression comes to, where each of its operands is a number at hand and each
-/// of its operators computes with numbers or compares them. None wherever that isn't found so: the
-/// expression may still have a value then. This takes no memory.
+/// of its operators computes with numbers or compares them. None wherever that isn't found so, as
+/// with `~`, functions, `&&`, `||` and `?:`: the expression may still have a value then. This takes
+/// no memory.
 pub fn number_at_hand(frames: &Frames, style: Integers, tree: &ExprTree) -> Option<i64>
     ensures { IfSome result
         (λ n. IsNumberAtHand frames.now.frames style tree.now.nodes.items n) }

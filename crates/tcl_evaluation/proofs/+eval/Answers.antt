@@ -23,8 +23,8 @@ use Rattle.tcl_run.proofs.Endings.{IfEnded-at, Interrupts-more, Interrupts-at}
 use Rattle.tcl_run.proofs.Proceeding.{at_prog, at_reply}
 use Rattle.tcl_run.proofs.Steady.{called_here, here-refl, here-trans, still_at, still_named, still_running, steady-trans, steady_holds, level_here, level_steady, nested_here, nested_holds, nested_innermost, nested_steady, nested_held, level_held, level-refl, same_level, begun_at, less_room, stands}
 use Rattle.tcl_run.proofs.Keeping.{keeps-refl, keeps-trans, level_keeps, charged_keeps, told_keeps}
-use Rattle.tcl_evaluation.proofs.Steps
-use Rattle.tcl_evaluation.proofs.Steps.{stays_of, EndsFrom, TextEnds, text_ends, VariableEnds, variable_ends, EndsAt, appended, forgets, both}
+use Rattle.tcl_words_at_hand.proofs.Steps
+use Rattle.tcl_words_at_hand.proofs.Steps.{stays_of, EndsFrom, TextEnds, text_ends, VariableEnds, variable_ends, EndsAt, appended, forgets, both}
 use Rattle.std.proofs.Common.{true, None}
 use Rattle.tcl_core.specs.Endings.{Reply}
 use Rattle.tcl_core.specs.Trees.{effect}
@@ -35,7 +35,7 @@ use Rattle.tcl_run.specs.Ends.{failing}
 use Rattle.tcl_interpreter.specs.declared.parameter.Parameter.{Parameter}
 use Rattle.tcl_calls.specs.Procedures.{pairs_of, TooLongBound}
 use Rattle.tcl_evaluation.proofs.Calling.{left_more, call_too_long, call_unbound, call_runs}
-use Rattle.tcl_evaluation.specs.View.{read_so}
+use Rattle.tcl_words_at_hand.specs.Scripts.{read_so}
 use Rattle.std.proofs.Common.{take, ◌-◌}
 use Rattle.tcl_language.specs.Faults.{invalid_command}
 use Rattle.tcl_language.specs.Table.{dispatch}
@@ -43,7 +43,7 @@ use Rattle.tcl_run.specs.Ends.{itself}
 use Rattle.tcl_flow.specs.View.{completion_of}
 use Rattle.tcl_language.specs.Control.{code_text, eval as control_eval, catch as control_catch}
 use Rattle.tcl_calls.specs.Found.{found}
-use Rattle.tcl_evaluation.proofs.Found.{call_found, call_missing}
+use Rattle.tcl_words_at_hand.proofs.Found.{call_found, call_missing}
 use Rattle.tcl_evaluation.proofs.Catching.{caught_ok, caught_err, eval_runs, eval_long, eval_none, catch_goes, catch_passes, catch_none, catch_many}
 use Rattle.tcl_evaluation.specs.View.{targeted, unhidden}
 use Rattle.std.proofs.Common.{false}
@@ -71,7 +71,7 @@ use Rattle.tcl_evaluation.proofs.Staying.{here_caught, here_collected, here_err,
 use Rattle.tcl_core.specs.Entries.Entry.{Eval, InvokeHidden}
 use Rattle.tcl_language.specs.Table.{hidden_at, invoked}
 use Rattle.tcl_calls.specs.Found.{hidden_found}
-use Rattle.tcl_evaluation.proofs.Found.{invoke_found, invoke_missing}
+use Rattle.tcl_words_at_hand.proofs.Found.{invoke_found, invoke_missing}
 use Rattle.tcl_core.specs.Entries.Entry.{CallWords}
 use Rattle.tcl_language.specs.Interpreters.{call_alias as alias_program}
 use Rattle.tcl_language.specs.Table.{serve}
@@ -106,6 +106,9 @@ use Rattle.tcl_evaluation.proofs.Levelling
 use Rattle.tcl_evaluation.proofs.Walking
 use Rattle.tcl_evaluation.proofs.Walking.{passed}
 use Rattle.tcl_evaluation.proofs.Conditions
+use Rattle.tcl_words_at_hand.proofs.Computing
+use Rattle.tcl_words_at_hand.proofs.Computing
+use Rattle.tcl_words_at_hand.proofs.Computing
 use Rattle.tcl_evaluation.proofs.Looping
 use Rattle.tcl_evaluation.proofs.Looping.{next_then}
 use Rattle.tcl_evaluation.specs.Conditional.{ComputesTo, TestGoes, TurnGoes, turn_then}
@@ -155,7 +158,8 @@ use Rattle.tcl_run.proofs.Losing.{lost_again, lost_once}
 use Rattle.tcl_run.proofs.Proceeding.{does_proceeds, stopped, stopped_by}
 use Rattle.tcl_language.specs.Definitions as definitions
 use Rattle.tcl_interpreter.specs.declared.builtin.Builtin.{Builtin}
-use Rattle.tcl_evaluation.proofs.Plainly.{acts_proceeds, asking_last, evaluates_at_proceeds, evaluates_proceeds, gets_proceeds, looks_proceed, passes_proceeds, proceeds_as}
+use Rattle.tcl_words_at_hand.proofs.Plainly.{acts_proceeds}
+use Rattle.tcl_evaluation.proofs.Plainly.{asking_last, evaluates_at_proceeds, evaluates_proceeds, gets_proceeds, looks_proceed, passes_proceeds, proceeds_as}
 use Rattle.tcl_run.specs.Runs.{room}
 use Rattle.tcl_run.specs.declared.outside.Turn.{Turn}
 use Rattle.tcl_language.specs.Interpreters.{denied, no_interpreter}
@@ -1336,11 +1340,11 @@ expressions::expression-returns-in-Some-clause-runs g t c = λ q style at text i
     let same = c.integers-style.ensures ∙ at.style_is in
     let fits : FitsSigned w64 c.in-Some.number = search rules in
     let made : c.from_int.result ≡ signed_decimal c.in-Some.number = c.from_int.ensures ∙ ap signed_decimal (to_z-of_z w64 c.in-Some.number fits) in
-    Conditions.computes_kept style text c.args.kept.now is
-    (Conditions.number_at_hand style c.integers-style.result c.args.kept.now.nodes.items c.in-Some.number c.from_int.result same n.1 (c.in-Some.ensures q n.0 at.names n.1) made)
+    Computing.computes_kept style text c.args.kept.now is
+    (Computing.number_at_hand style c.integers-style.result c.args.kept.now.nodes.items c.in-Some.number c.from_int.result same n.1 (c.in-Some.ensures q n.0 at.names n.1) made)
 
-pub expressions::expression-returns-in_err-operand-clause-runs : goal.expressions::expression-returns-in_err-operand-clause-runs
-expressions::expression-returns-in_err-operand-clause-runs g t c =
+pub expressions::compute-returns-in_err-operand-clause-runs : goal.expressions::compute-returns-in_err-operand-clause-runs
+expressions::compute-returns-in_err-operand-clause-runs g t c =
     let p = err_from_is_err_and c.from_residual.result c.from_residual.ensures.1 in
     fails_err c.from_residual.result c.in_err-operand.field-0.0 p.0 _ _ _ p.1 p.2 c.in_err-operand.ensures.gives
     (λ e h q style at text is.
@@ -1349,8 +1353,8 @@ expressions::expression-returns-in_err-operand-clause-runs g t c =
     (Conditions.is_refused style _ (settles style) e (subst (λ (s : Integers). IsRefused (from s c.args.kept.now.nodes.items c.parts.evaluation.next c.parts.evaluation.values.items) e) same h)))
     (λ q style at text is. c.parts.invariant.leads q style at text is _ _ _ stopped)
 
-pub expressions::expression-returns-in_err-value-in-Wants-clause-runs : goal.expressions::expression-returns-in_err-value-in-Wants-clause-runs
-expressions::expression-returns-in_err-value-in-Wants-clause-runs g t c =
+pub expressions::compute-returns-in_err-value-in-Wants-clause-runs : goal.expressions::compute-returns-in_err-value-in-Wants-clause-runs
+expressions::compute-returns-in_err-value-in-Wants-clause-runs g t c =
     let wants : from c.integers-style.result c.args.kept.now.nodes.items c.parts.evaluation.next c.parts.evaluation.values.items
     ≡ substitute c.in-Wants.operand.now (λ v. from c.integers-style.result c.args.kept.now.nodes.items c.next_part.new.evaluation.next (c.next_part.new.evaluation.values.items ++ v ∷ [])) = search rules in
     let p = err_from_is_err_and c.from_residual-in_err-value-in-Wants.result c.from_residual-in_err-value-in-Wants.ensures.1 in
@@ -1363,8 +1367,8 @@ expressions::expression-returns-in_err-value-in-Wants-clause-runs g t c =
     (Conditions.wants_part style c.integers-style.result c.args.kept.now.nodes.items c.parts.evaluation.next c.next_part.new.evaluation.next c.parts.evaluation.values.items c.next_part.new.evaluation.values.items c.in-Wants.operand.now same wants
     (Conditions.part_stays style c.in-Wants.operand.now (λ v. from style c.args.kept.now.nodes.items c.next_part.new.evaluation.next (c.next_part.new.evaluation.values.items ++ v ∷ [])) (settles style) e h.1 (h.0 q style (still_at c.args.tree.now c.parts.tree c.args.place q style c.parts.invariant.here at)))))
 
-pub expressions::expression-returns-in_err-supply-in-Wants-clause-runs : goal.expressions::expression-returns-in_err-supply-in-Wants-clause-runs
-expressions::expression-returns-in_err-supply-in-Wants-clause-runs g t c =
+pub expressions::compute-returns-in_err-supply-in-Wants-clause-runs : goal.expressions::compute-returns-in_err-supply-in-Wants-clause-runs
+expressions::compute-returns-in_err-supply-in-Wants-clause-runs g t c =
     let wants : from c.integers-style.result c.args.kept.now.nodes.items c.parts.evaluation.next c.parts.evaluation.values.items
     ≡ substitute c.in-Wants.operand.now (λ v. from c.integers-style.result c.args.kept.now.nodes.items c.next_part.new.evaluation.next (c.next_part.new.evaluation.values.items ++ v ∷ [])) = search rules in
     let x = ran_text c.eval_operand.result c.in_ok-value-in-Wants.value (EndsFrom (ways g.O.Outside.goes g.O.Outside.loses) c.parts.tree c.parts.outside c.args.place (λ style. parts c.in-Wants.operand.now.parts [] []) c.eval_operand.new.tree c.eval_operand.new.outside)
@@ -1375,11 +1379,11 @@ expressions::expression-returns-in_err-supply-in-Wants-clause-runs g t c =
     let same = c.integers-style.ensures ∙ at.style_is in
     c.parts.invariant.leads q style at text is _ _ _
     (Conditions.wants_part style c.integers-style.result c.args.kept.now.nodes.items c.parts.evaluation.next c.next_part.new.evaluation.next c.parts.evaluation.values.items c.next_part.new.evaluation.values.items c.in-Wants.operand.now same wants
-    (Conditions.part_goes style c.in-Wants.operand.now (λ v. from style c.args.kept.now.nodes.items c.next_part.new.evaluation.next (c.next_part.new.evaluation.values.items ++ v ∷ [])) (settles style) x.0 c.in_ok-value-in-Wants.value x.2 x.3 (x.1 q style (still_at c.args.tree.now c.parts.tree c.args.place q style c.parts.invariant.here at))
+    (Computing.part_goes style c.in-Wants.operand.now (λ v. from style c.args.kept.now.nodes.items c.next_part.new.evaluation.next (c.next_part.new.evaluation.values.items ++ v ∷ [])) (settles style) x.0 c.in_ok-value-in-Wants.value x.2 x.3 (x.1 q style (still_at c.args.tree.now c.parts.tree c.args.place q style c.parts.invariant.here at))
     stopped)))
 
-pub expressions::expression-returns-in-Done-clause-runs : goal.expressions::expression-returns-in-Done-clause-runs
-expressions::expression-returns-in-Done-clause-runs g t c =
+pub expressions::compute-returns-in-Done-clause-runs : goal.expressions::compute-returns-in-Done-clause-runs
+expressions::compute-returns-in-Done-clause-runs g t c =
     let gives : from c.integers-style.result c.args.kept.now.nodes.items c.parts.evaluation.next c.parts.evaluation.values.items ≡ value c.in-Done.value = search rules in
     ran c.settle.result (EndsBy (settles c.integers-style.result c.in-Done.value)) (ComputesTo (ways g.O.Outside.goes g.O.Outside.loses) c.args.tree.now c.args.outside.now c.args.place c.args.kept.now c.parts.tree c.parts.outside)
     (λ e h q style at text is.
@@ -1388,8 +1392,8 @@ expressions::expression-returns-in-Done-clause-runs g t c =
     (Conditions.is_value style c.integers-style.result c.args.kept.now.nodes.items c.parts.evaluation.next c.parts.evaluation.values.items c.in-Done.value e same gives h))
     (λ q style at text is. c.parts.invariant.leads q style at text is _ _ _ stopped) c.settle.ensures
 
-pub expressions::expression-parts-preserved : goal.expressions::expression-parts-preserved
-expressions::expression-parts-preserved g t c =
+pub expressions::compute-parts-preserved : goal.expressions::compute-parts-preserved
+expressions::compute-parts-preserved g t c =
     let wants : from c.integers-style.result c.args.kept.now.nodes.items c.parts.evaluation.next c.parts.evaluation.values.items
     ≡ substitute c.in-Wants.operand.now (λ v. from c.integers-style.result c.args.kept.now.nodes.items c.next_part.new.evaluation.next (c.next_part.new.evaluation.values.items ++ v ∷ [])) = search rules in
     let x = ran_text c.eval_operand.result c.in_ok-value-in-Wants.value (EndsFrom (ways g.O.Outside.goes g.O.Outside.loses) c.parts.tree c.parts.outside c.args.place (λ style. parts c.in-Wants.operand.now.parts [] []) c.eval_operand.new.tree c.eval_operand.new.outside)
@@ -1399,7 +1403,7 @@ expressions::expression-parts-preserved g t c =
           let same = c.integers-style.ensures ∙ at.style_is in
           c.parts.invariant.leads q style at text is _ _ _
           (Conditions.wants_part style c.integers-style.result c.args.kept.now.nodes.items c.parts.evaluation.next c.next_part.new.evaluation.next c.parts.evaluation.values.items c.next_part.new.evaluation.values.items c.in-Wants.operand.now same wants
-          (Conditions.part_goes style c.in-Wants.operand.now (λ v. from style c.args.kept.now.nodes.items c.next_part.new.evaluation.next (c.next_part.new.evaluation.values.items ++ v ∷ [])) (settles style) x.0 c.in_ok-value-in-Wants.value x.2 x.3 (x.1 q style (still_at c.args.tree.now c.parts.tree c.args.place q style c.parts.invariant.here at))
+          (Computing.part_goes style c.in-Wants.operand.now (λ v. from style c.args.kept.now.nodes.items c.next_part.new.evaluation.next (c.next_part.new.evaluation.values.items ++ v ∷ [])) (settles style) x.0 c.in_ok-value-in-Wants.value x.2 x.3 (x.1 q style (still_at c.args.tree.now c.parts.tree c.args.place q style c.parts.invariant.here at))
           (at_prog (λ i. computed (from style c.args.kept.now.nodes.items (sym c.in_ok-supply-in-Wants.ensures.next i) (sym c.in_ok-supply-in-Wants.ensures.values i)) (settles style)) run)));
       here = here-trans c.args.tree.now c.parts.tree c.eval_operand.new.tree c.args.place c.parts.invariant.here (here_text c.eval_operand.result c.in_ok-value-in-Wants.value c.parts.tree c.eval_operand.new.tree c.args.place c.in_ok-value-in-Wants.ensures.text c.eval_operand.ensures.here);
       keeps = keeps-trans c.parts.invariant.keeps c.eval_operand.ensures.keeps;
@@ -1409,13 +1413,13 @@ pub expressions::condition-returns-in_err-value-clause-runs : goal.expressions::
 expressions::condition-returns-in_err-value-clause-runs g t c =
     let p = err_from_is_err_and c.from_residual.result c.from_residual.ensures.1 in
     ran_err c.from_residual.result c.in_err-value.field-0.0 p.0 _ _ _ p.1 p.2
-    (stays_of c.expression.result c.in_err-value.field-0.0 (ComputesTo (ways g.O.Outside.goes g.O.Outside.loses) c.args.tree.now c.args.outside.now c.args.place c.args.test.now c.expression.new.tree c.expression.new.outside)
-    c.in_err-value.ensures.same c.expression.ensures.runs c.in_err-value.ensures.stays)
+    (stays_of c.compute.result c.in_err-value.field-0.0 (ComputesTo (ways g.O.Outside.goes g.O.Outside.loses) c.args.tree.now c.args.outside.now c.args.place c.args.test.now c.compute.new.tree c.compute.new.outside)
+    c.in_err-value.ensures.same c.compute.ensures.runs c.in_err-value.ensures.stays)
     (λ e h q style at text is k. Conditions.test_stays style text k e h.1 (h.0 q style at text is))
 
 pub expressions::condition-returns-clause-runs : goal.expressions::condition-returns-clause-runs
 expressions::condition-returns-clause-runs g t c =
-    let x = ran_text c.expression.result c.in_ok-value.value (ComputesTo (ways g.O.Outside.goes g.O.Outside.loses) c.args.tree.now c.args.outside.now c.args.place c.args.test.now c.expression.new.tree c.expression.new.outside) c.in_ok-value.ensures.text c.expression.ensures.runs in
+    let x = ran_text c.compute.result c.in_ok-value.value (ComputesTo (ways g.O.Outside.goes g.O.Outside.loses) c.args.tree.now c.args.outside.now c.args.place c.args.test.now c.compute.new.tree c.compute.new.outside) c.in_ok-value.ensures.text c.compute.ensures.runs in
     Conditions.tested (truth c.integers-style.result c.in_ok-value.value) c.holds.result _ _ c.holds.ensures
     (λ b h q style at text is k V y r run.
     let same = c.integers-style.ensures ∙ at.style_is in
@@ -1445,7 +1449,7 @@ expressions::expr-returns-in_err-kept-clause-runs g t c =
     fails_err c.from_residual-in_err-kept.result c.in_err-kept.field-0.0 p.0 _ _ _ p.1 p.2 c.in_err-kept.ensures.refused
     (λ e h q style at.
     let same = c.integers.ensures ∙ at.style_is in
-    Conditions.expr_runs style c.args.args.now some c.in_ok-text.ensures.whole.1
+    Computing.expr_runs style c.args.args.now some c.in_ok-text.ensures.whole.1
     (at_prog (ap (expression style) (sym c.in_ok-text.ensures.whole.0)) (Conditions.misread style c.in_ok-text.text e (Conditions.misread_in c.integers.result style c.in_ok-text.text e same h))))
     (λ q style at. stopped)
 
@@ -1456,7 +1460,7 @@ expressions::expr-returns-clause-runs g t c =
     (EndsFrom (ways g.O.Outside.goes g.O.Outside.loses) c.args.tree.now c.args.outside.now c.args.place (λ style. expr c.args.args.now) c.expression.new.tree c.expression.new.outside)
     (λ e h q style at.
     let same = c.integers.ensures ∙ at.style_is in
-    Conditions.expr_runs style c.args.args.now some c.in_ok-text.ensures.whole.1
+    Computing.expr_runs style c.args.args.now some c.in_ok-text.ensures.whole.1
     (at_prog (ap (expression style) (sym c.in_ok-text.ensures.whole.0)) (h q style at c.in_ok-text.text (Conditions.kept_behind c.integers.result style c.in_ok-text.text c.in_ok-kept.kept.value c.deref.result.now c.deref.ensures same c.in_ok-kept.ensures.read)))) c.expression.ensures.runs
 
 -- if
@@ -3088,8 +3092,8 @@ collecting::lmap-eval_value-ended-requires g t c κs within = (search rules, (se
 pub evaluation::eval_commands-eval_command-requires : goal.evaluation::eval_commands-eval_command-requires
 evaluation::eval_commands-eval_command-requires g t c κs within = (search rules, (search rules, still_running c.args.tree.now c.commands.tree c.args.place c.commands.invariant.here c.requires.running))
 
-pub expressions::expression-eval_operand-requires : goal.expressions::expression-eval_operand-requires
-expressions::expression-eval_operand-requires g t c κs within = (search rules, (search rules, still_running c.args.tree.now c.parts.tree c.args.place c.parts.invariant.here c.requires))
+pub expressions::compute-eval_operand-requires : goal.expressions::compute-eval_operand-requires
+expressions::compute-eval_operand-requires g t c κs within = (search rules, (search rules, still_running c.args.tree.now c.parts.tree c.args.place c.parts.invariant.here c.requires))
 
 pub expressions::while_loop-turn-requires : goal.expressions::while_loop-turn-requires
 expressions::while_loop-turn-requires g t c κs within = (search rules, (search rules, still_running c.args.tree.now c.turns.tree c.args.place c.turns.invariant.here c.requires))
@@ -3225,27 +3229,27 @@ commands::call_procedure-returns-in_err-enter_frame-clause-keeps g t c = level_k
 pub expressions::expression-returns-in-Some-clause-here : goal.expressions::expression-returns-in-Some-clause-here
 expressions::expression-returns-in-Some-clause-here g t c = here-refl c.args.tree.now c.args.place
 
-pub expressions::expression-returns-in_err-operand-clause-here : goal.expressions::expression-returns-in_err-operand-clause-here
-expressions::expression-returns-in_err-operand-clause-here g t c = on_completion c.from_residual.result (IsHere c.args.tree.now c.parts.tree c.args.place) c.parts.invariant.here
+pub expressions::compute-returns-in_err-operand-clause-here : goal.expressions::compute-returns-in_err-operand-clause-here
+expressions::compute-returns-in_err-operand-clause-here g t c = on_completion c.from_residual.result (IsHere c.args.tree.now c.parts.tree c.args.place) c.parts.invariant.here
 
-pub expressions::expression-returns-in_err-value-in-Wants-clause-here : goal.expressions::expression-returns-in_err-value-in-Wants-clause-here
-expressions::expression-returns-in_err-value-in-Wants-clause-here g t c =
+pub expressions::compute-returns-in_err-value-in-Wants-clause-here : goal.expressions::compute-returns-in_err-value-in-Wants-clause-here
+expressions::compute-returns-in_err-value-in-Wants-clause-here g t c =
     let p = err_from_is_err_and c.from_residual-in_err-value-in-Wants.result c.from_residual-in_err-value-in-Wants.ensures.1 in
     here_passed c.from_residual-in_err-value-in-Wants.result c.eval_operand.result c.in_err-value-in-Wants.field-0.0 p.0 c.args.tree.now c.parts.tree c.eval_operand.new.tree c.args.place p.1 p.2 c.in_err-value-in-Wants.ensures.same c.parts.invariant.here c.eval_operand.ensures.here
 
-pub expressions::expression-returns-in_err-supply-in-Wants-clause-here : goal.expressions::expression-returns-in_err-supply-in-Wants-clause-here
-expressions::expression-returns-in_err-supply-in-Wants-clause-here g t c = on_completion c.from_residual-in_err-supply-in-Wants.result (IsHere c.args.tree.now c.eval_operand.new.tree c.args.place) (here-trans c.args.tree.now c.parts.tree c.eval_operand.new.tree c.args.place c.parts.invariant.here (here_text c.eval_operand.result c.in_ok-value-in-Wants.value c.parts.tree c.eval_operand.new.tree c.args.place c.in_ok-value-in-Wants.ensures.text c.eval_operand.ensures.here))
+pub expressions::compute-returns-in_err-supply-in-Wants-clause-here : goal.expressions::compute-returns-in_err-supply-in-Wants-clause-here
+expressions::compute-returns-in_err-supply-in-Wants-clause-here g t c = on_completion c.from_residual-in_err-supply-in-Wants.result (IsHere c.args.tree.now c.eval_operand.new.tree c.args.place) (here-trans c.args.tree.now c.parts.tree c.eval_operand.new.tree c.args.place c.parts.invariant.here (here_text c.eval_operand.result c.in_ok-value-in-Wants.value c.parts.tree c.eval_operand.new.tree c.args.place c.in_ok-value-in-Wants.ensures.text c.eval_operand.ensures.here))
 
-pub expressions::expression-returns-in-Done-clause-here : goal.expressions::expression-returns-in-Done-clause-here
-expressions::expression-returns-in-Done-clause-here g t c = on_completion c.settle.result (IsHere c.args.tree.now c.parts.tree c.args.place) c.parts.invariant.here
+pub expressions::compute-returns-in-Done-clause-here : goal.expressions::compute-returns-in-Done-clause-here
+expressions::compute-returns-in-Done-clause-here g t c = on_completion c.settle.result (IsHere c.args.tree.now c.parts.tree c.args.place) c.parts.invariant.here
 
 pub expressions::condition-returns-in_err-value-clause-here : goal.expressions::condition-returns-in_err-value-clause-here
 expressions::condition-returns-in_err-value-clause-here g t c =
     let p = err_from_is_err_and c.from_residual.result c.from_residual.ensures.1 in
-    here_passed c.from_residual.result c.expression.result c.in_err-value.field-0.0 p.0 c.args.tree.now c.args.tree.now c.expression.new.tree c.args.place p.1 p.2 c.in_err-value.ensures.same (here-refl c.args.tree.now c.args.place) c.expression.ensures.here
+    here_passed c.from_residual.result c.compute.result c.in_err-value.field-0.0 p.0 c.args.tree.now c.args.tree.now c.compute.new.tree c.args.place p.1 p.2 c.in_err-value.ensures.same (here-refl c.args.tree.now c.args.place) c.compute.ensures.here
 
 pub expressions::condition-returns-clause-here : goal.expressions::condition-returns-clause-here
-expressions::condition-returns-clause-here g t c = on_completion c.holds.result (IsHere c.args.tree.now c.expression.new.tree c.args.place) (here_text c.expression.result c.in_ok-value.value c.args.tree.now c.expression.new.tree c.args.place c.in_ok-value.ensures.text c.expression.ensures.here)
+expressions::condition-returns-clause-here g t c = on_completion c.holds.result (IsHere c.args.tree.now c.compute.new.tree c.args.place) (here_text c.compute.result c.in_ok-value.value c.args.tree.now c.compute.new.tree c.args.place c.in_ok-value.ensures.text c.compute.ensures.here)
 
 pub expressions::if_first-returns-in_err-test-clause-here : goal.expressions::if_first-returns-in_err-test-clause-here
 expressions::if_first-returns-in_err-test-clause-here g t c = on_completion c.from_residual-in_err-test.result (IsHere c.args.tree.now c.tests.tree c.args.place) c.tests.invariant.here
@@ -3987,8 +3991,8 @@ waiting::wait-turns-smaller g t c =
     let left : g.O.Outside.entries_left c.hand_in.new.outside ≤ g.O.Outside.entries_left c.next-coming.new.self = c.hand_in.ensures.keeps.left in
     omega arith
 
-pub expressions::expression-returns-in_err-value-in-Wants-clause-keeps : goal.expressions::expression-returns-in_err-value-in-Wants-clause-keeps
-expressions::expression-returns-in_err-value-in-Wants-clause-keeps g t c = keeps-trans c.parts.invariant.keeps c.eval_operand.ensures.keeps
+pub expressions::compute-returns-in_err-value-in-Wants-clause-keeps : goal.expressions::compute-returns-in_err-value-in-Wants-clause-keeps
+expressions::compute-returns-in_err-value-in-Wants-clause-keeps g t c = keeps-trans c.parts.invariant.keeps c.eval_operand.ensures.keeps
 
-pub expressions::expression-returns-in_err-supply-in-Wants-clause-keeps : goal.expressions::expression-returns-in_err-supply-in-Wants-clause-keeps
-expressions::expression-returns-in_err-supply-in-Wants-clause-keeps g t c = keeps-trans c.parts.invariant.keeps c.eval_operand.ensures.keeps
+pub expressions::compute-returns-in_err-supply-in-Wants-clause-keeps : goal.expressions::compute-returns-in_err-supply-in-Wants-clause-keeps
+expressions::compute-returns-in_err-supply-in-Wants-clause-keeps g t c = keeps-trans c.parts.invariant.keeps c.eval_operand.ensures.keeps

@@ -157,14 +157,17 @@ invariant-evaluation::substitute-parts g l = record {
 abbrev pub decreases-operands::eval_operand : goal.decreases-operands::eval_operand
 decreases-operands::eval_operand g l = 32032 * g.O.Outside.entries_left l.outside.now + 32 * room (tree_of l.tree.now) + 5
 
+abbrev pub decreases-expressions::compute : goal.decreases-expressions::compute
+decreases-expressions::compute g l = 32032 * g.O.Outside.entries_left l.outside.now + 32 * room (tree_of l.tree.now) + 6
+
 abbrev pub decreases-expressions::expression : goal.decreases-expressions::expression
-decreases-expressions::expression g l = 32032 * g.O.Outside.entries_left l.outside.now + 32 * room (tree_of l.tree.now) + 6
+decreases-expressions::expression g l = 32032 * g.O.Outside.entries_left l.outside.now + 32 * room (tree_of l.tree.now) + 7
 
 abbrev pub decreases-expressions::condition : goal.decreases-expressions::condition
 decreases-expressions::condition g l = 32032 * g.O.Outside.entries_left l.outside.now + 32 * room (tree_of l.tree.now) + 7
 
 abbrev pub decreases-expressions::expr : goal.decreases-expressions::expr
-decreases-expressions::expr g l = 32032 * g.O.Outside.entries_left l.outside.now + 32 * room (tree_of l.tree.now) + 7
+decreases-expressions::expr g l = 32032 * g.O.Outside.entries_left l.outside.now + 32 * room (tree_of l.tree.now) + 8
 
 abbrev pub decreases-expressions::if_first : goal.decreases-expressions::if_first
 decreases-expressions::if_first g l = 32032 * g.O.Outside.entries_left l.outside.now + 32 * room (tree_of l.tree.now) + 8
@@ -178,11 +181,11 @@ decreases-expressions::while_loop g l = 32032 * g.O.Outside.entries_left l.outsi
 abbrev pub decreases-expressions::for_loop : goal.decreases-expressions::for_loop
 decreases-expressions::for_loop g l = 32032 * g.O.Outside.entries_left l.outside.now + 32 * room (tree_of l.tree.now) + 9
 
-abbrev pub decreases-expressions::expression-parts : goal.decreases-expressions::expression-parts
-decreases-expressions::expression-parts g l = length l.kept.nodes.items - l.evaluation.next
+abbrev pub decreases-expressions::compute-parts : goal.decreases-expressions::compute-parts
+decreases-expressions::compute-parts g l = length l.kept.nodes.items - l.evaluation.next
 
-abbrev pub invariant-expressions::expression-parts : goal.invariant-expressions::expression-parts
-invariant-expressions::expression-parts g l = record {
+abbrev pub invariant-expressions::compute-parts : goal.invariant-expressions::compute-parts
+invariant-expressions::compute-parts g l = record {
   leads : (p : Path) (style : Integers) → IsAt l.fn.tree l.place p style → (text : List ℕ) → IsKept style text l.fn.kept →
       Leads (ways g.O.Outside.goes g.O.Outside.loses) style (tree_of l.fn.tree) l.fn.outside p (expression style text) (tree_of l.tree) l.outside (computed (from style l.kept.nodes.items l.evaluation.next l.evaluation.values.items) (settles style));
   here : IsHere l.fn.tree l.tree l.place;

@@ -43,7 +43,7 @@ use Rattle.tcl_tree.specs.declared.tree.Place.{Place as TablePlace}
 use Rattle.tcl_variables.specs.declared.fault.FrameFault.{FrameFault}
 use Rattle.tcl_value.specs.Texts.{AllWithin}
 use Rattle.tcl_calls.specs.Words.{words_of, AtOk, Closes, ClosesBy, Adds, EndsBy}
-use Rattle.tcl_evaluation.specs.View.{read_so}
+use Rattle.tcl_words_at_hand.specs.Scripts.{read_so}
 
 -- how far a program comes that is run in an interpreter where an evaluation is in progress
 abbrev pub EndsFrom : {S : Type 0} → Ways S → Table → S → TablePlace → (Integers → Program) → Table → S → Ending → Type 0

@@ -1,0 +1,7 @@
+mod Calling
+pub mod Computing
+pub mod Found
+mod Own
+pub mod Plainly
+pub mod Steps
+mod Summing

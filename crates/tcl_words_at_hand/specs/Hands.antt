@@ -1,0 +1,118 @@
+-- Words, expressions and commands that are at hand in an interpreter: what they come to is known
+-- without an evaluation.
+use Rattle.std.specs.Prelude.{◌≡◌, ◌⊎◌, Bool, true, false, ℤ, List, [], ◌∷◌, ◌++◌, Some, None, Ok}
+use Rattle.std.specs.Fmt.{signed_decimal}
+use Rattle.tcl_core.specs.Paths.{Text, Path}
+use Rattle.tcl_core.specs.Trees.{Node}
+use Rattle.tcl_expr.specs.declared.tree.ExprTree.{ExprTree}
+use Rattle.tcl_frames.specs.Chain.{read}
+use Rattle.tcl_frames.specs.Places.{Levels}
+use Rattle.tcl_interpreter.specs.declared.builtin.Builtin.{Builtin}
+use Rattle.tcl_interpreter.specs.declared.builtin.Builtin.TheVariants.{Expr}
+use Rattle.tcl_interpreter.specs.declared.command.Command.TheVariants as command
+use Rattle.tcl_language.specs.Instructions.{fits}
+use Rattle.tcl_language.specs.Words.{concat}
+use Rattle.tcl_number_expressions.specs.AtHand.{IsNumberAtHand}
+use Rattle.tcl_parser.specs.Reading.{read_script}
+use Rattle.tcl_parser.specs.Words.{WordRead, Reading}
+use Rattle.tcl_parser.specs.declared.script.Part.TheVariants.{Variable, Script}
+use Rattle.tcl_prepared.specs.Views.{literal_parts, literal_word}
+use Rattle.tcl_text.specs.declared.integer.Integers.{Integers}
+use Rattle.tcl_tree.specs.Own.{Own}
+use Rattle.tcl_tree.specs.TreeOf.{tree_of, marks_of, Names}
+use Rattle.tcl_tree.specs.declared.tree.Place.{Place}
+use Rattle.tcl_tree.specs.declared.tree.Tree.{Tree as Table}
+use Rattle.tcl_value.specs.Texts.{AllWithin}
+use Rattle.tcl_calls.specs.Expressions.{IsKept}
+use Rattle.tcl_calls.specs.Found.{found}
+
+-- ## Words
+
+-- the word isn't spread, and it stands for the text: it is that text, or a variable that holds it
+pub record StandsFor (frames : Levels) (word : WordRead) (text : Text) : Type 0 where
+  pub single : word.expand ≡ false
+  pub short : fits text ≡ true
+  pub by : (word.parts ≡ literal_parts text) ⊎
+      ((name : Text) × (word.parts ≡ Variable name ∷ []) × (read frames name ≡ Ok text))
+
+-- each word stands for the text at its place
+abbrev pub AllStand : Levels → List WordRead → List Text → Type 0
+AllStand frames [] [] = Unit {0}
+AllStand frames [] (t ∷ texts) = Prim.⊥
+AllStand frames (w ∷ words) [] = Prim.⊥
+AllStand frames (w ∷ words) (t ∷ texts) = StandsFor frames w t × AllStand frames words texts
+
+-- ## Commands
+
+-- a word names a built-in command in the interpreter
+abbrev pub IsNamed : Node Own → Text → Builtin → Type 0
+IsNamed n word builtin = found n word ≡ Ok (command.Builtin builtin)
+
+-- and so in the interpreter that a place names
+abbrev pub Named : Table → Place → Text → Builtin → Type 0
+Named t place word builtin = (p : Path) (n : Node Own) → Names t place p → tree_of t p ≡ Some n →
+    IsNamed n word builtin
+
+-- ## Sums: scripts that are one `expr` of numbers at hand
+
+-- The script is one command of two words that stand for themselves: the first names `expr`, and the
+-- second is an expression of numbers at hand, which comes to the text.
+pub record IsSum (style : Integers) (n : Node Own) (script : Reading) (text : Text) : Type 0 where
+  pub word : Text
+  pub argument : Text
+  pub is : script ≡ record {
+    commands = (literal_word word ∷ literal_word argument ∷ []) ∷ [];
+    fault = None;
+  }
+  pub within : AllWithin (word ∷ argument ∷ [])
+  pub named : IsNamed n word Expr
+  pub short : fits (concat (argument ∷ [])) ≡ true
+  pub kept : ExprTree
+  pub is_kept : IsKept style (concat (argument ∷ [])) kept
+  pub number : ℤ
+  pub at_hand : IsNumberAtHand n.own.chain.frames style kept.nodes.items number
+  pub comes : text ≡ signed_decimal number
+
+-- and so in the interpreter that a place names
+abbrev pub IsSumIn : Table → Place → Reading → Text → Type 0
+IsSumIn t place script text = (p : Path) (n : Node Own) → Names t place p → tree_of t p ≡ Some n →
+    IsSum (marks_of t).integers n script text
+
+-- The word isn't spread, and it stands for the text, as one that is at hand or as the result of a
+-- sum in brackets.
+abbrev pub EndsAs : Integers → Node Own → WordRead → Bool → Text → Type 0
+EndsAs style n word false text = StandsFor n.own.chain.frames word text
+EndsAs style n word true text = (word.expand ≡ false) × (fits text ≡ true) × (inner : Text) ×
+    (word.parts ≡ Script inner ∷ []) × IsSum style n (read_script inner) text
+
+-- and so in the interpreter that a place names
+abbrev pub EndsIn : Table → Place → WordRead → Bool → Text → Type 0
+EndsIn t place word sums text = (p : Path) (n : Node Own) → Names t place p →
+    tree_of t p ≡ Some n → EndsAs (marks_of t).integers n word sums text
+
+-- the interpreter that a place names has the own part that it had
+abbrev pub KeepsOwn : Table → Table → Place → Type 0
+KeepsOwn old new place = (p : Path) (n : Node Own) → Names old place p → tree_of old p ≡ Some n →
+    (m : Node Own) × (tree_of new p ≡ Some m) × (m.own ≡ n.own)
+
+-- ## Calls
+
+-- The words are those of a call of a plain command: all but the last stand for texts, and the last
+-- one ends them, be it a sum or not.
+pub record IsCall (style : Integers) (n : Node Own) (words : List WordRead) (builtin : Builtin)
+    (sums : Bool) (args : List Text) : Type 0 where
+  pub word : Text
+  pub named : IsNamed n word builtin
+  pub front : List WordRead
+  pub last : WordRead
+  pub before : List Text
+  pub text : Text
+  pub words_are : words ≡ front ++ last ∷ []
+  pub args_are : word ∷ args ≡ before ++ text ∷ []
+  pub stand : AllStand n.own.chain.frames front before
+  pub ends : EndsAs style n last sums text
+
+-- and so in the interpreter that a place names
+abbrev pub IsCallIn : Table → Place → List WordRead → Builtin → Bool → List Text → Type 0
+IsCallIn t place words builtin sums args = (p : Path) (n : Node Own) → Names t place p →
+    tree_of t p ≡ Some n → IsCall (marks_of t).integers n words builtin sums args

@@ -1,0 +1,115 @@
+//! What is at hand: words, commands, and sums in brackets.
+ghost use Rattle.std.specs.Prelude.{◌≡◌, true, IfSome, option_copied};
+ghost use Rattle.tcl_builtins.specs.Kinds.{is_plain};
+ghost use Rattle.tcl_prepared.specs.Views.{seen_word};
+ghost use Rattle.tcl_words_at_hand.specs.Hands.{Named, EndsIn, IsSumIn, StandsFor};
+
+use std::alloc::Global;
+use tcl_calls::expressions::number_at;
+use tcl_calls::lookup::kept_name;
+use tcl_calls::scripts::script_of;
+use tcl_frames::frames::Frames;
+use tcl_prepared::prepared::{Prepared, PreparedCommand, PreparedPart, PreparedWord};
+use tcl_run::steps::{frames_seen, known_short};
+use tcl_tree::builtin::Builtin;
+use tcl_tree::command::Command;
+use tcl_tree::tree::{Place, Tree};
+use tcl_value::value::Value;
+
+/// Whether a built-in command evaluates nothing, and asks neither another interpreter nor the host.
+fn is_plain(builtin: Builtin) -> bool
+    ensures { result ≡ is_plain builtin }
+{
+    match builtin {
+        Builtin::Uplevel | Builtin::Eval | Builtin::Catch | Builtin::Try => false,
+        Builtin::Foreach | Builtin::Lmap | Builtin::Dict | Builtin::Switch => false,
+        Builtin::Expr | Builtin::If | Builtin::While | Builtin::For => false,
+        Builtin::Rename | Builtin::Interp => false,
+        Builtin::Open | Builtin::Close | Builtin::Gets | Builtin::Puts => false,
+        Builtin::Read | Builtin::Eof | Builtin::Flush | Builtin::Source => false,
+        _ => true,
+    }
+}
+
+/// The built-in command that a word names in the interpreter, if it names one. Where memory is
+/// wanting, none.
+pub fn builtin_named(tree: &Tree, alloc: Global, place: Place, word: &Value) -> Option<Builtin>
+    ensures { IfSome result (λ builtin. Named tree.now place word.now builtin) }
+{
+    let Ok(Some(name)) = kept_name(alloc, word) else {
+        return None;
+    };
+    match tree.command_near(place, &name)? {
+        Command::Builtin(builtin) => Some(*builtin),
+        _ => None,
+    }
+}
+
+/// The same, where the command is a plain one.
+pub fn plain_named(tree: &Tree, alloc: Global, place: Place, word: &Value) -> Option<Builtin>
+    ensures named { IfSome result (λ builtin. Named tree.now place word.now builtin) }
+    ensures plain { IfSome result (λ builtin. is_plain builtin ≡ true) }
+{
+    let builtin = builtin_named(tree, alloc, place, word)?;
+    if is_plain(builtin) {
+        return Some(builtin);
+    }
+    None
+}
+
+/// What a word stands for, where it stands for itself or for a variable of the current frame.
+pub fn value_at_hand(frames: &Frames, word: &PreparedWord) -> Option<Value>
+    ensures { IfSome result (λ value. StandsFor frames.now.frames (seen_word word.now) value) }
+{
+    let value = match word {
+        PreparedWord::Literal(value) => value,
+        PreparedWord::Lone(PreparedPart::Variable(name)) => frames.scalar_near(name)?,
+        _ => return None,
+    };
+    Some(known_short(value.clone().ok()?))
+}
+
+/// The result of a script that is one `expr` of one word, where that is an expression of numbers
+/// at hand. Nothing is counted: [`count_sum`](crate::sums::count_sum) does that.
+pub fn sum_at_hand(tree: &Tree, alloc: Global, place: Place, script: &Prepared) -> Option<Value>
+    ensures { IfSome result (λ sum. IsSumIn tree.now place script.now sum) }
+{
+    let [PreparedCommand::Constant(literals)] = script.commands() else {
+        return None;
+    };
+    if script.fault().is_some() {
+        return None;
+    }
+    let [word, args @ ..] = literals.words() else {
+        return None;
+    };
+    if args.len() != 1 {
+        return None;
+    }
+    let Builtin::Expr = builtin_named(tree, alloc, place, word)? else {
+        return None;
+    };
+    let text = script_of(alloc, args).ok()?;
+    let style = tree.integers();
+    let kept = tree.expression_of(alloc, &text, style).ok()?;
+    let number = number_at(tree, place, style, &kept)?;
+    Some(known_short(Value::from_int(number)))
+}
+
+/// What the last word of a call stands for, and whether it is a sum in brackets, which isn't
+/// counted yet.
+pub fn last_at_hand(
+    tree: &Tree,
+    alloc: Global,
+    place: Place,
+    word: &PreparedWord,
+) -> Option<(Value, bool)>
+    ensures { IfSome result (λ last. EndsIn tree.now place (seen_word word.now) last.1 last.0) }
+{
+    if let PreparedWord::Lone(PreparedPart::Bracket(bracket)) = word {
+        let sum = sum_at_hand(tree, alloc, place, bracket.script())?;
+        return Some((sum, true));
+    }
+    let value = value_at_hand(frames_seen(tree, place)?, word)?;
+    Some((value, false))
+}
