@@ -89,7 +89,7 @@ pub stays_of : (given : Result (List ℕ) Interruption) (i : Interruption) (P : 
 stays_of given i P same h s = Breaks-both i P Stays _ (λ e p q. (p, q)) (subst (λ (x : Result (List ℕ) Interruption). IfRan x P) same h) s
 
 -- a text within the limit of a value
-within_fits : (text : List ℕ) → length text ≤ 16777216 → fits text ≡ true
+pub within_fits : (text : List ℕ) → length text ≤ 16777216 → fits text ≡ true
 within_fits text h = grind (arith, nat_tests)
 
 -- a command that has words

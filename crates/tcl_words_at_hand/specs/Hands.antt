@@ -53,6 +53,11 @@ abbrev pub Named : Table → Place → Text → Builtin → Type 0
 Named t place word builtin = (p : Path) (n : Node Own) → Names t place p → tree_of t p ≡ Some n →
     IsNamed n word builtin
 
+-- a word that stands for itself names it
+abbrev pub NamedBy : Table → Place → WordRead → Builtin → Type 0
+NamedBy t place word builtin = (text : Text) × (word ≡ literal_word text) × (fits text ≡ true) ×
+    Named t place text builtin
+
 -- ## Sums: scripts that are one `expr` of numbers at hand
 
 -- The script is one command of two words that stand for themselves: the first names `expr`, and the

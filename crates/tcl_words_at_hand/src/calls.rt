@@ -9,7 +9,7 @@ ghost use Rattle.tcl_run.specs.Ends.{OnCompletion};
 ghost use Rattle.tcl_run.specs.Runs.{IsHere, IsRunning, Keeps, ProceedsIn, ways};
 ghost use Rattle.tcl_words_at_hand.specs.Hands.{IsCallIn, Named};
 
-use crate::hands::{last_at_hand, plain_named, value_at_hand};
+use crate::hands::{last_at_hand, literal_named, value_at_hand};
 use crate::sums::count_sum;
 use std::alloc::Global;
 use tcl_builtins::plain::call_plain;
@@ -86,10 +86,7 @@ fn call_of_one<O: Outside>(
     ensures keeps { Keeps O.entries_left tree.old tree.new outside.old outside.new }
     ensures unchanged { IfNone result ((tree.new ≡ tree.old) × (outside.new ≡ outside.old)) }
 {
-    let PreparedWord::Literal(word) = word else {
-        return None;
-    };
-    let builtin = plain_named(tree, alloc, place, word)?;
+    let builtin = literal_named(tree, alloc, place, word)?;
     let (value, sums) = last_at_hand(tree, alloc, place, last)?;
     let args = [value];
     Some(call_words(tree, alloc, outside, place, builtin, sums, &args))
@@ -113,10 +110,7 @@ fn call_of_two<O: Outside>(
     ensures keeps { Keeps O.entries_left tree.old tree.new outside.old outside.new }
     ensures unchanged { IfNone result ((tree.new ≡ tree.old) × (outside.new ≡ outside.old)) }
 {
-    let PreparedWord::Literal(word) = word else {
-        return None;
-    };
-    let builtin = plain_named(tree, alloc, place, word)?;
+    let builtin = literal_named(tree, alloc, place, word)?;
     let value = value_at_hand(frames_seen(tree, place)?, first)?;
     let (end, sums) = last_at_hand(tree, alloc, place, last)?;
     let args = [value, end];

@@ -2,7 +2,7 @@
 ghost use Rattle.std.specs.Prelude.{◌≡◌, true, IfSome, option_copied};
 ghost use Rattle.tcl_builtins.specs.Kinds.{is_plain};
 ghost use Rattle.tcl_prepared.specs.Views.{seen_word};
-ghost use Rattle.tcl_words_at_hand.specs.Hands.{Named, EndsIn, IsSumIn, StandsFor};
+ghost use Rattle.tcl_words_at_hand.specs.Hands.{Named, NamedBy, EndsIn, IsSumIn, StandsFor};
 
 use std::alloc::Global;
 use tcl_calls::expressions::number_at;
@@ -55,6 +55,23 @@ pub fn plain_named(tree: &Tree, alloc: Global, place: Place, word: &Value) -> Op
         return Some(builtin);
     }
     None
+}
+
+/// The plain command that a word names which stands for itself.
+pub fn literal_named(
+    tree: &Tree,
+    alloc: Global,
+    place: Place,
+    word: &PreparedWord,
+) -> Option<Builtin>
+    ensures named { IfSome result (λ builtin. NamedBy tree.now place (seen_word word.now) builtin) }
+    ensures plain { IfSome result (λ builtin. is_plain builtin ≡ true) }
+{
+    let PreparedWord::Literal(word) = word else {
+        return None;
+    };
+    let _within = word.text_len();
+    plain_named(tree, alloc, place, word)
 }
 
 /// What a word stands for, where it stands for itself or for a variable of the current frame.

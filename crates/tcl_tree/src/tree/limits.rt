@@ -2,7 +2,7 @@
 ghost use Rattle.std.specs.Prelude.{◌≡◌, ◌++◌, List, ℕ, IfOk, IfErr, OnOk, OnErr, Some, None, []};
 ghost use Rattle.std.specs.Prelude.{IsSome, ◌≢◌};
 
-use crate::tree::meters::{Alone, raise, raise_alone};
+use crate::tree::meters::raise;
 use crate::tree::{Place, Tree};
 use tcl_interpreter::node::{MOST_STEPS, Meter};
 use tcl_interpreter::refusal::TreeError;
@@ -27,34 +27,6 @@ impl Tree {
     // Moves a meter of the interpreter and of those above it, or says how many levels up it is
     // full.
     fn move_at(&mut self, key: usize, meter: Meter) -> Result<(), usize>
-        requires there { (p : List (List ℕ)) × (key_of self.old p ≡ Some key) }
-        requires onward { meter ≢ Back }
-        ensures keys { (q : List (List ℕ)) → key_of self.new q ≡ key_of self.old q }
-        ensures marks { marks_of self.new ≡ marks_of self.old }
-        ensures charged { OnOk result
-            ((p : List (List ℕ)) → key_of self.old p ≡ Some key → (q : List (List ℕ)) →
-            tree_of self.new q ≡ charged (moved meter) (tree_of self.old) p q) }
-        ensures room { OnOk result ((p : List (List ℕ)) → key_of self.old p ≡ Some key →
-            NoneFull (full_of meter) (tree_of self.old) p) }
-        ensures full { IfErr result
-            (λ level. (p : List (List ℕ)) → key_of self.old p ≡ Some key →
-            IsNearestFull (full_of meter) (tree_of self.old) p level) }
-        ensures unchanged { OnErr result
-            ((q : List (List ℕ)) → tree_of self.new q ≡ tree_of self.old q) }
-        ensures as_before { OnErr result ((k : ℕ) → held_of self.new k ≡ held_of self.old k) }
-        ensures counted { meter ≡ Steps → (k : ℕ) → held_of self.new k ≡ held_of self.old k }
-        ensures deeper { OnOk result
-            (meter ≡ Levels → Deepens (held_of self.old) key (held_of self.new)) }
-    {
-        match raise_alone(&mut self.nodes, key, meter) {
-            Alone::Moved => Ok(()),
-            Alone::Full => Err(0),
-            Alone::Below => self.move_below(key, meter),
-        }
-    }
-
-    // The same, also for an interpreter below another.
-    fn move_below(&mut self, key: usize, meter: Meter) -> Result<(), usize>
         requires there { (p : List (List ℕ)) × (key_of self.old p ≡ Some key) }
         requires onward { meter ≢ Back }
         ensures keys { (q : List (List ℕ)) → key_of self.new q ≡ key_of self.old q }
