@@ -11,8 +11,15 @@ use tcl_run::failure::refused;
 use tcl_run::interruption::Interruption;
 use tcl_value::value::Value;
 
+/// Hands the place on that a value's text keeps: a hint, see [`Value::place`].
+pub fn hand_place(from: &Value, to: &Value) {
+    if let Some(place) = from.place() {
+        to.keep_place(place);
+    }
+}
+
 /// The script that words are put together to, as `concat` puts them: trimmed of white space, with a
-/// space between any two. (concat(n))
+/// space between any two. (concat(n)) It keeps the place that the first word keeps.
 ///
 /// # Errors
 /// That it is too long for a value; want of memory.
@@ -25,7 +32,12 @@ pub fn script_of(alloc: Global, words: &[Value]) -> Result<Value, Interruption>
         (e ≡ Completed too_long_error))) }
 {
     match concat(alloc, words) {
-        Ok(script) => Ok(script),
+        Ok(script) => {
+            if let [first, ..] = words {
+                hand_place(first, &script);
+            }
+            Ok(script)
+        }
         Err(refusal) => Err(refused(alloc, refusal)),
     }
 }

@@ -11,7 +11,7 @@ use crate::operands::eval_operand;
 use std::alloc::Global;
 use tcl_calls::branches::{Branches, branches_of};
 use tcl_calls::expressions::{holds, next_part, number_at, read_expression, settle};
-use tcl_calls::scripts::script_of;
+use tcl_calls::scripts::{hand_place, script_of};
 use tcl_calls::turns::{goes_on, turns_on};
 use tcl_expr::tree::ExprTree;
 use tcl_expression_evaluation::evaluation::{Evaluation, Progress};
@@ -138,6 +138,7 @@ pub fn expr<O: Outside>(
     }
     let text = script_of(alloc, args)?;
     let kept = read_expression(tree, alloc, tree.integers(), &text)?;
+    hand_place(&text, &args[0]);
     expression(tree, alloc, outside, place, &kept)
 }
 

@@ -7,6 +7,7 @@ use Rattle.tcl_core.specs.Endings.Reply.{Completed}
 use Rattle.tcl_core.specs.Runs.{Ending}
 use Rattle.tcl_core.specs.Trees.{Tree, Node}
 use Rattle.tcl_frames.specs.Chain.{read}
+use Rattle.tcl_frames.specs.Places.{Levels}
 use Rattle.tcl_interpreter.specs.declared.builtin.Builtin.{Builtin}
 use Rattle.tcl_language.specs.Instructions.{fits}
 use Rattle.tcl_language.specs.Scripts.{parts, words}
@@ -15,7 +16,7 @@ use Rattle.tcl_parser.specs.Reading.{read_script}
 use Rattle.tcl_parser.specs.Words.{WordRead}
 use Rattle.tcl_parser.specs.declared.script.Part.{Part}
 use Rattle.tcl_parser.specs.declared.script.Part.TheVariants.{Variable}
-use Rattle.tcl_prepared.specs.Views.{literal_parts}
+use Rattle.tcl_prepared.specs.Views.{literal_parts, literal_word}
 use Rattle.tcl_run.specs.Ends.{Stays}
 use Rattle.tcl_run.specs.Runs.{Proceeds, Ways}
 use Rattle.tcl_run.proofs.Proceeding.{at_prog, completed}
@@ -24,6 +25,10 @@ use Rattle.tcl_tree.specs.Own.{Own}
 use Rattle.tcl_words_at_hand.specs.Hands.{AllStand, IsCall, StandsFor}
 use Rattle.tcl_words_at_hand.specs.Scripts.{read_so}
 use Rattle.tcl_words_at_hand.proofs.Steps.{lone, script_goes, script_stays, single_goes, variable_goes, word_stays}
+
+-- a literal stands for its text
+pub literal_stands : (frames : Levels) (word : WordRead) (text : List ℕ) → word ≡ literal_word text → fits text ≡ true → StandsFor frames word text
+literal_stands frames word text e f = record { single = ap (λ (w : WordRead). w.expand) e; short = f; by = inl (ap (λ (w : WordRead). w.parts) e) }
 
 module _ {S : Type 0} {ways : Ways S} (style : Integers) where
   -- ## Words that stand for texts

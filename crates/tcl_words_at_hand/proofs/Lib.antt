@@ -1,6 +1,7 @@
 mod Calling
 pub mod Computing
 pub mod Found
+mod Naming
 mod Own
 pub mod Plainly
 pub mod Steps

@@ -102,8 +102,8 @@ KeepsOwn old new place = (p : Path) (n : Node Own) → Names old place p → tre
 
 -- ## Calls
 
--- The words are those of a call of a plain command: all but the last stand for texts, and the last
--- one ends them, be it a sum or not.
+-- The words are those of a call: all but the last stand for texts, and the last one ends them, be
+-- it a sum or not. The first names a built-in command.
 pub record IsCall (style : Integers) (n : Node Own) (words : List WordRead) (builtin : Builtin)
     (sums : Bool) (args : List Text) : Type 0 where
   pub word : Text
@@ -116,8 +116,3 @@ pub record IsCall (style : Integers) (n : Node Own) (words : List WordRead) (bui
   pub args_are : word ∷ args ≡ before ++ text ∷ []
   pub stand : AllStand n.own.chain.frames front before
   pub ends : EndsAs style n last sums text
-
--- and so in the interpreter that a place names
-abbrev pub IsCallIn : Table → Place → List WordRead → Builtin → Bool → List Text → Type 0
-IsCallIn t place words builtin sums args = (p : Path) (n : Node Own) → Names t place p →
-    tree_of t p ≡ Some n → IsCall (marks_of t).integers n words builtin sums args

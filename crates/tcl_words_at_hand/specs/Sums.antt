@@ -1,17 +1,19 @@
--- What comes of counting a sum.
-use Rattle.std.specs.Prelude.{◌≡◌, Some}
+-- What comes of sums that are counted, and of calls whose words are at hand.
+use Rattle.std.specs.Prelude.{◌≡◌, ◌∷◌, [], List, Bool, Some}
 use Rattle.tcl_core.specs.Paths.{Text, Path}
 use Rattle.tcl_core.specs.Runs.{Ending}
 use Rattle.tcl_core.specs.Trees.{Node}
+use Rattle.tcl_interpreter.specs.declared.builtin.Builtin.{Builtin}
+use Rattle.tcl_language.specs.Scripts.{words}
 use Rattle.tcl_language_laws.specs.Language.{language}
-use Rattle.tcl_parser.specs.Words.{Reading}
-use Rattle.tcl_run.specs.Runs.{IsThere, Proceeds, Ways}
+use Rattle.tcl_parser.specs.Words.{Reading, WordRead}
+use Rattle.tcl_run.specs.Runs.{IsAt, IsThere, Proceeds, Ways}
 use Rattle.tcl_text.specs.declared.integer.Integers.{Integers}
 use Rattle.tcl_tree.specs.Own.{Own}
 use Rattle.tcl_tree.specs.TreeOf.{tree_of}
 use Rattle.tcl_tree.specs.declared.tree.Place.{Place}
 use Rattle.tcl_tree.specs.declared.tree.Tree.{Tree as Table}
-use Rattle.tcl_words_at_hand.specs.Hands.{IsSum}
+use Rattle.tcl_words_at_hand.specs.Hands.{IsCall, IsNamed, IsSum}
 use Rattle.tcl_words_at_hand.specs.Scripts.{read_so}
 
 -- each sum that is at hand there is evaluated so far, to the end that its result has
@@ -20,3 +22,18 @@ Sums ways old o place new z end = (p : Path) (style : Integers) (n : Node Own) �
     IsThere old place p style → tree_of old p ≡ Some n → (script : Reading) (text : Text) →
     IsSum style n script text →
     Proceeds ways (language style) (tree_of old) o p (read_so script) (tree_of new) z (end text)
+
+-- a command that is named so goes so far, from its step on, with these arguments
+abbrev pub CallsNamed : {S : Type 0} → Ways S → Table → S → Place → Builtin → List Text → Table → S →
+    Ending → Type 0
+CallsNamed ways old o place builtin args new z e = (p : Path) (style : Integers) (n : Node Own) →
+    IsAt old place p style → tree_of old p ≡ Some n → (word : Text) → IsNamed n word builtin →
+    Proceeds ways (language style) (tree_of old) o p (words [] (word ∷ args)) (tree_of new) z e
+
+-- and so does each command whose words are such a call
+abbrev pub CallsAtHand : {S : Type 0} → Ways S → Table → S → Place → Builtin → Bool → List Text →
+    Table → S → Ending → Type 0
+CallsAtHand ways old o place builtin sums args new z e = (p : Path) (style : Integers)
+    (n : Node Own) → IsAt old place p style → tree_of old p ≡ Some n → (ws : List WordRead) →
+    IsCall style n ws builtin sums args →
+    Proceeds ways (language style) (tree_of old) o p (words ws []) (tree_of new) z e

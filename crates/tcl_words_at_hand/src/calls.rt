@@ -1,13 +1,11 @@
 //! Calls of plain commands whose words are at hand.
-ghost use Rattle.std.specs.Prelude.{◌≡◌, ◌∷◌, [], true, List, IfSome, IfNone, map};
+ghost use Rattle.std.specs.Prelude.{◌≡◌, ◌∷◌, [], true, IfSome, IfNone, map};
 ghost use Rattle.tcl_builtins.specs.Kinds.{is_plain};
-ghost use Rattle.tcl_core.specs.Paths.{Text};
 ghost use Rattle.tcl_language.specs.Scripts as scripts;
-ghost use Rattle.tcl_parser.specs.Words.{WordRead};
 ghost use Rattle.tcl_prepared.specs.Views.{seen_word};
-ghost use Rattle.tcl_run.specs.Ends.{OnCompletion};
+ghost use Rattle.tcl_run.specs.Ends.{IfRan, OnCompletion};
 ghost use Rattle.tcl_run.specs.Runs.{IsHere, IsRunning, Keeps, ProceedsIn, ways};
-ghost use Rattle.tcl_words_at_hand.specs.Hands.{IsCallIn, Named};
+ghost use Rattle.tcl_words_at_hand.specs.Sums.{CallsAtHand, CallsNamed};
 
 use crate::hands::{last_at_hand, literal_named, value_at_hand};
 use crate::sums::count_sum;
@@ -35,9 +33,8 @@ pub fn call_plain_command<O: Outside>(
 ) -> Result<Value, Interruption>
     requires running { IsRunning tree.old place }
     requires plain { is_plain builtin ≡ true }
-    ensures runs { (word : Text) → Named tree.old place word builtin →
-        ProceedsIn (ways O.goes O.loses) tree.old outside.old place
-        (λ style. scripts.words [] (word ∷ args.now)) tree.new outside.new result }
+    ensures runs { IfRan result (CallsNamed (ways O.goes O.loses) tree.old outside.old place builtin
+        args.now tree.new outside.new) }
     ensures here { OnCompletion result (IsHere tree.old tree.new place) }
     ensures keeps { Keeps O.entries_left tree.old tree.new outside.old outside.new }
 {
@@ -57,14 +54,14 @@ fn call_words<O: Outside>(
 ) -> Result<Value, Interruption>
     requires running { IsRunning tree.old place }
     requires plain { is_plain builtin ≡ true }
-    ensures runs { (words : List WordRead) → IsCallIn tree.old place words builtin sums args.now →
-        ProceedsIn (ways O.goes O.loses) tree.old outside.old place
-        (λ style. scripts.words words []) tree.new outside.new result }
+    ensures runs { IfRan result (CallsAtHand (ways O.goes O.loses) tree.old outside.old place builtin
+        sums args.now tree.new outside.new) }
     ensures here { OnCompletion result (IsHere tree.old tree.new place) }
     ensures keeps { Keeps O.entries_left tree.old tree.new outside.old outside.new }
 {
     if sums {
         count_sum(tree, alloc, outside, place)?;
+        return call_plain_command(tree, alloc, outside, place, builtin, args);
     }
     call_plain_command(tree, alloc, outside, place, builtin, args)
 }

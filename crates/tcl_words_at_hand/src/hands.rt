@@ -7,7 +7,7 @@ ghost use Rattle.tcl_words_at_hand.specs.Hands.{Named, NamedBy, EndsIn, IsSumIn,
 use std::alloc::Global;
 use tcl_calls::expressions::number_at;
 use tcl_calls::lookup::kept_name;
-use tcl_calls::scripts::script_of;
+use tcl_calls::scripts::{hand_place, script_of};
 use tcl_frames::frames::Frames;
 use tcl_prepared::prepared::{Prepared, PreparedCommand, PreparedPart, PreparedWord};
 use tcl_run::steps::{frames_seen, known_short};
@@ -109,6 +109,7 @@ pub fn sum_at_hand(tree: &Tree, alloc: Global, place: Place, script: &Prepared) 
     let text = script_of(alloc, args).ok()?;
     let style = tree.integers();
     let kept = tree.expression_of(alloc, &text, style).ok()?;
+    hand_place(&text, &args[0]);
     let number = number_at(tree, place, style, &kept)?;
     Some(known_short(Value::from_int(number)))
 }

@@ -3,7 +3,7 @@ ghost use Rattle.std.specs.Prelude.{OnOk, IfErr, Some};
 ghost use Rattle.tcl_core.specs.Endings.{ok};
 ghost use Rattle.tcl_core.specs.Endings.Reply.{Completed};
 ghost use Rattle.tcl_core.specs.Paths.{Path};
-ghost use Rattle.tcl_run.specs.Ends.{Breaks, OnCompletion, Stays};
+ghost use Rattle.tcl_run.specs.Ends.{Breaks, Stays};
 ghost use Rattle.tcl_run.specs.Runs.{IsHere, Keeps, ways};
 ghost use Rattle.tcl_tree.specs.TreeOf.{Names};
 ghost use Rattle.tcl_words_at_hand.specs.Hands.{KeepsOwn};
@@ -33,7 +33,7 @@ pub fn count_sum<O: Outside>(
         (λ i. Breaks i (λ e. Stays e × Sums (ways O.goes O.loses) tree.old outside.old place
         tree.new outside.new (λ text. e))) }
     ensures own { OnOk result (KeepsOwn tree.old tree.new place) }
-    ensures here { OnCompletion result (IsHere tree.old tree.new place) }
+    ensures here { IsHere tree.old tree.new place }
     ensures keeps { Keeps O.entries_left tree.old tree.new outside.old outside.new }
 {
     if let Err(levels) = tree.nest_at(place) {
