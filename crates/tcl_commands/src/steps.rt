@@ -195,11 +195,20 @@ pub(crate) fn integer(
     }
 }
 
+/// The integer of a word, in a style.
+pub(crate) fn integer_of(style: Integers, alloc: Global, word: &Value) -> Result<i64, Interruption>
+    ensures { Gave (integer_message word.now) (in_64_bits (integer_of style word.now)) result }
+{
+    match word.int(style) {
+        Ok(n) => Ok(n),
+        Err(fault) => Err(integer_failure(alloc, word, fault)),
+    }
+}
+
 /// The integer of a word.
 pub fn word_integer(tree: &Tree, alloc: Global, word: &Value) -> Result<i64, Interruption>
     ensures { Gave (integer_message word.now)
         (in_64_bits (integer_of (marks_of tree.now).integers word.now)) result }
 {
-    let mut own = word.clone()?;
-    integer(tree.integers(), alloc, &mut own)
+    integer_of(tree.integers(), alloc, word)
 }

@@ -7,7 +7,7 @@ ghost use Rattle.tcl_run.specs.Ends.{Interrupts, failing};
 ghost use Rattle.tcl_commands.specs.Growing.{GrowsTo};
 ghost use Rattle.tcl_commands.specs.Sums.{Reads, increment, raised, sum_text};
 
-use crate::steps::integer;
+use crate::steps::{integer, integer_of};
 use std::alloc::Global;
 use tcl_run::failure::plain_failure;
 use tcl_run::interruption::Interruption;
@@ -29,10 +29,7 @@ fn increment(style: Integers, alloc: Global, words: &[Value]) -> Result<i64, Int
 {
     match words {
         [] => Ok(1),
-        [word, ..] => {
-            let mut own = word.clone()?;
-            integer(style, alloc, &mut own)
-        }
+        [word, ..] => integer_of(style, alloc, word),
     }
 }
 

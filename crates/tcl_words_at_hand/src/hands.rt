@@ -5,7 +5,7 @@ ghost use Rattle.tcl_prepared.specs.Views.{seen_word};
 ghost use Rattle.tcl_words_at_hand.specs.Hands.{Named, NamedBy, EndsIn, IsSumIn, StandsFor};
 
 use std::alloc::Global;
-use tcl_calls::expressions::number_at;
+use tcl_calls::expressions::{number_at, read_expression};
 use tcl_calls::lookup::kept_name;
 use tcl_calls::scripts::{hand_place, script_of};
 use tcl_frames::frames::Frames;
@@ -108,7 +108,7 @@ pub fn sum_at_hand(tree: &Tree, alloc: Global, place: Place, script: &Prepared) 
     };
     let text = script_of(alloc, args).ok()?;
     let style = tree.integers();
-    let kept = tree.expression_of(alloc, &text, style).ok()?;
+    let kept = read_expression(tree, alloc, style, &text).ok()?;
     hand_place(&text, &args[0]);
     let number = number_at(tree, place, style, &kept)?;
     Some(known_short(Value::from_int(number)))
