@@ -28,7 +28,6 @@ use tcl_run::steps::{known_short, on_ok, read_named};
 use tcl_text::text::Text;
 use tcl_tree::tree::{Place, Tree};
 use tcl_value::value::Value;
-use tcl_words_at_hand::calls::call_at_hand;
 use tcl_words_at_hand::hands::sum_at_hand;
 use tcl_words_at_hand::sums::count_sum;
 
@@ -165,7 +164,7 @@ fn eval_commands<O: Outside>(
 }
 
 /// Substitutes a command's words from left to right, makes a step and calls it. Words each of which
-/// stands for itself are lent as they are, and those that are at hand aren't evaluated one by one.
+/// stands for itself are lent as they are.
 ///
 /// # Errors
 /// Those of the words; 101 to 104 of a word that is spread; the stop 308; those of the call; want
@@ -190,9 +189,6 @@ fn eval_command<O: Outside>(
             call_literals(tree, alloc, outside, place, literals.words())
         }
         PreparedCommand::General(words) => {
-            if let Some(ended) = call_at_hand(tree, alloc, outside, place, words.as_slice()) {
-                return ended;
-            }
             call_words(tree, alloc, outside, place, words.as_slice())
         }
     }

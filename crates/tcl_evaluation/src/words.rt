@@ -17,7 +17,7 @@ use tcl_run::outside::Outside;
 use tcl_run::steps::{charge, on_ok};
 use tcl_tree::tree::{Place, Tree};
 use tcl_value::value::Value;
-use tcl_words_at_hand::calls::call_plain_command;
+use tcl_words_at_hand::calls::{call_at_hand, call_plain_command};
 use tcl_words_at_hand::hands::plain_named;
 
 /// Makes a step and calls the command that the first of these texts names. No texts are no command.
@@ -72,6 +72,32 @@ pub fn call_literals<O: Outside>(
     call_texts(tree, alloc, outside, place, words)
 }
 
+/// Substitutes a command's words from left to right, makes a step and calls it. Words that are at
+/// hand aren't evaluated one by one.
+///
+/// # Errors
+/// Those of the words; 101 to 104 of a word that is spread; the stop 308; those of the call; want
+/// of memory.
+#[cycle(eval)]
+pub fn call_words<O: Outside>(
+    tree: &mut Tree,
+    alloc: Global,
+    outside: &mut O,
+    place: Place,
+    words: &[PreparedWord],
+) -> Result<Value, Interruption>
+    requires running { IsRunning tree.old place }
+    ensures runs { ProceedsIn (ways O.goes O.loses) tree.old outside.old place
+        (λ style. scripts.words (map seen_word words.now) []) tree.new outside.new result }
+    ensures here { OnCompletion result (IsHere tree.old tree.new place) }
+    ensures keeps { Keeps O.entries_left tree.old tree.new outside.old outside.new }
+{
+    if let Some(ended) = call_at_hand(tree, alloc, outside, place, words) {
+        return ended;
+    }
+    call_general(tree, alloc, outside, place, words)
+}
+
 /// Substitutes a command's words from left to right, makes a step and calls it. Of two to four
 /// words no list is made.
 ///
@@ -79,7 +105,7 @@ pub fn call_literals<O: Outside>(
 /// Those of the words; 101 to 104 of a word that is spread; the stop 308; those of the call; want
 /// of memory.
 #[cycle(eval)]
-pub fn call_words<O: Outside>(
+fn call_general<O: Outside>(
     tree: &mut Tree,
     alloc: Global,
     outside: &mut O,

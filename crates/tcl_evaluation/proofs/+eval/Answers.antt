@@ -158,7 +158,13 @@ use Rattle.tcl_run.proofs.Losing.{lost_again, lost_once}
 use Rattle.tcl_run.proofs.Proceeding.{does_proceeds, stopped, stopped_by}
 use Rattle.tcl_language.specs.Definitions as definitions
 use Rattle.tcl_interpreter.specs.declared.builtin.Builtin.{Builtin}
-use Rattle.tcl_words_at_hand.proofs.Plainly.{acts_proceeds}
+use Rattle.tcl_words_at_hand.proofs.Plainly.{acts_proceeds, sum_in, unchanged_runs}
+use Rattle.tcl_words_at_hand.specs.Sums.{CallsNamed}
+use Rattle.tcl_tree.specs.declared.tree.Tree.{Tree as Table}
+use Rattle.tcl_run.specs.Runs.{IsRunning}
+use Rattle.tcl_run.specs.Ends.{OnCompletion}
+use Rattle.tcl_value.proofs.Laws.{int_of-number}
+use Rattle.tcl_operators.proofs.Truths.{truth_of_number}
 use Rattle.tcl_evaluation.proofs.Plainly.{asking_last, evaluates_at_proceeds, evaluates_proceeds, gets_proceeds, looks_proceed, passes_proceeds, proceeds_as}
 use Rattle.tcl_run.specs.Runs.{room}
 use Rattle.tcl_run.specs.declared.outside.Turn.{Turn}
@@ -236,6 +242,33 @@ words::call_literals-returns-clause-runs g t c =
     IfRan-more c.call_texts.result (EndsFrom (ways g.O.Outside.goes g.O.Outside.loses) c.args.tree.now c.args.outside.now c.args.place (λ style. words [] c.args.words.now) c.call_texts.new.tree c.call_texts.new.outside)
     (EndsFrom (ways g.O.Outside.goes g.O.Outside.loses) c.args.tree.now c.args.outside.now c.args.place (λ style. words (map literal_word c.args.words.now) []) c.call_texts.new.tree c.call_texts.new.outside)
     (λ e h q style at. Steps.lends style c.args.words.now [] c.requires.within (h q style at)) c.call_texts.ensures.runs
+
+pub words::call_literals-returns-in-Some-clause-runs : goal.words::call_literals-returns-in-Some-clause-runs
+words::call_literals-returns-in-Some-clause-runs g t c =
+    let more = take (length c.args.words.now - 1) (drop 1 c.args.words.now) in
+    IfRan-more c.call_plain_command.result
+    (CallsNamed (ways g.O.Outside.goes g.O.Outside.loses) c.args.tree.now c.args.outside.now c.args.place c.in-Some.builtin more c.call_plain_command.new.tree c.call_plain_command.new.outside)
+    (EndsFrom (ways g.O.Outside.goes g.O.Outside.loses) c.args.tree.now c.args.outside.now c.args.place (λ style. words (map literal_word c.args.words.now) []) c.call_plain_command.new.tree c.call_plain_command.new.outside)
+    (λ e h q style at. let n = stands (tree_of c.args.tree.now q) (tree_there c.args.tree.now q _ at.names) in
+    Steps.lends style c.args.words.now [] c.requires.within
+    (at_prog (ap (words []) (split_first c.args.words.now c.word-item.result c.in-len1-up.len_at_least c.word-item.is))
+    (h q style n.0 at n.1 c.word-item.result (c.in-Some.ensures.named q n.0 at.names n.1)))) c.call_plain_command.ensures.runs
+
+-- words in general
+
+pub words::call_words-call_general-requires : goal.words::call_words-call_general-requires
+words::call_words-call_general-requires g t c κs within = (search rules, (search rules, subst (λ (x : Table). IsRunning x c.args.place) (sym c.in_default.ensures.unchanged.0) c.requires.running))
+
+pub words::call_words-returns-clause-runs : goal.words::call_words-returns-clause-runs
+words::call_words-returns-clause-runs g t c =
+    unchanged_runs (ways g.O.Outside.goes g.O.Outside.loses) c.args.tree.now c.call_at_hand.new.tree c.call_general.new.tree c.args.outside.now c.call_at_hand.new.outside c.call_general.new.outside c.args.place (λ style. words (map seen_word c.args.words.now) []) c.call_general.result
+    c.in_default.ensures.unchanged.0 c.in_default.ensures.unchanged.1 c.call_general.ensures.runs
+
+pub words::call_words-returns-clause-here : goal.words::call_words-returns-clause-here
+words::call_words-returns-clause-here g t c = subst (λ (x : Table). OnCompletion c.call_general.result (IsHere x c.call_general.new.tree c.args.place)) c.in_default.ensures.unchanged.0 c.call_general.ensures.here
+
+pub words::call_words-returns-clause-keeps : goal.words::call_words-returns-clause-keeps
+words::call_words-returns-clause-keeps g t c = keeps-trans c.call_at_hand.ensures.keeps c.call_general.ensures.keeps
 
 -- any number of words
 
@@ -608,14 +641,14 @@ words::call_four-returns-clause-keeps g t c = keeps-trans (keeps-trans (keeps-tr
 
 -- words of any kind
 
-pub words::call_words-call_two-requires : goal.words::call_words-call_two-requires
-words::call_words-call_two-requires g t c κs within = (search rules, (search rules, (c.requires.running, c.are_single.ensures c.if-not-are_single.false)))
+pub words::call_general-call_two-requires : goal.words::call_general-call_two-requires
+words::call_general-call_two-requires g t c κs within = (search rules, (search rules, (c.requires.running, c.are_single.ensures c.if-not-are_single.false)))
 
-pub words::call_words-call_three-requires : goal.words::call_words-call_three-requires
-words::call_words-call_three-requires g t c κs within = (search rules, (search rules, (c.requires.running, c.are_single.ensures c.if-not-are_single.false)))
+pub words::call_general-call_three-requires : goal.words::call_general-call_three-requires
+words::call_general-call_three-requires g t c κs within = (search rules, (search rules, (c.requires.running, c.are_single.ensures c.if-not-are_single.false)))
 
-pub words::call_words-call_four-requires : goal.words::call_words-call_four-requires
-words::call_words-call_four-requires g t c κs within = (search rules, (search rules, (c.requires.running, c.are_single.ensures c.if-not-are_single.false)))
+pub words::call_general-call_four-requires : goal.words::call_general-call_four-requires
+words::call_general-call_four-requires g t c κs within = (search rules, (search rules, (c.requires.running, c.are_single.ensures c.if-not-are_single.false)))
 
 -- a command
 
@@ -762,12 +795,27 @@ evaluation::eval_script-returns-clause-held g t c = λ q at.
     nested_held c.args.tree.now c.nest_at.new.self c.eval_commands-ended.new.tree c.args.place q at c.in_default.ensures.keys c.in_default.ensures.deeper (c.in_default.ensures.nested q at).1 c.eval_commands-ended.ensures.keeps.steady
     c.unnest.new.self c.unnest.ensures.keys c.unnest.ensures.shallower (c.unnest.ensures.unnested q 1 (nested_holds c.args.tree.now c.nest_at.new.self c.eval_commands-ended.new.tree c.args.place q at c.in_default.ensures.keys c.in_default.ensures.deeper (c.in_default.ensures.nested q at).1 c.eval_commands-ended.ensures.keeps.steady))
 
+pub evaluation::eval_bracket-returns-in_err-count_sum-clause-runs : goal.evaluation::eval_bracket-returns-in_err-count_sum-clause-runs
+evaluation::eval_bracket-returns-in_err-count_sum-clause-runs g t c =
+    let p = err_from_is_err_and c.from_residual.result c.from_residual.ensures.1 in
+    ran_err c.from_residual.result c.in_err-count_sum.field-0.0 p.0 _ _ _ p.1 p.2 c.in_err-count_sum.ensures.breaks
+    (λ e h q style at. let n = stands (tree_of c.args.tree.now q) (tree_there c.args.tree.now q _ at.names) in
+    at_prog (ap read_so (sym c.script.ensures)) (h.1 q style n.0 at n.1 c.script.result.now c.in-Some.sum (sum_in c.args.tree.now style n.0 c.script.result.now c.in-Some.sum at.style_is (c.in-Some.ensures q n.0 at.names n.1))))
+
+pub evaluation::eval_bracket-returns-in_err-count_sum-clause-here : goal.evaluation::eval_bracket-returns-in_err-count_sum-clause-here
+evaluation::eval_bracket-returns-in_err-count_sum-clause-here g t c = on_completion c.from_residual.result (IsHere c.args.tree.now c.count_sum.new.tree c.args.place) c.count_sum.ensures.here
+
+pub evaluation::eval_bracket-returns-in_ok-count_sum-clause-runs : goal.evaluation::eval_bracket-returns-in_ok-count_sum-clause-runs
+evaluation::eval_bracket-returns-in_ok-count_sum-clause-runs g t c = λ q style at.
+    let n = stands (tree_of c.args.tree.now q) (tree_there c.args.tree.now q _ at.names) in
+    at_prog (ap read_so (sym c.script.ensures)) (c.in_ok-count_sum.ensures.sums q style n.0 at n.1 c.script.result.now c.in-Some.sum (sum_in c.args.tree.now style n.0 c.script.result.now c.in-Some.sum at.style_is (c.in-Some.ensures q n.0 at.names n.1)))
+
 pub evaluation::eval_bracket-returns-clause-runs : goal.evaluation::eval_bracket-returns-clause-runs
 evaluation::eval_bracket-returns-clause-runs g t c =
     IfRan-more c.eval_script.result
-    (EndsAt (ways g.O.Outside.goes g.O.Outside.loses) c.args.tree.now c.args.outside.now c.args.place (λ style. read_so c.script.result.now) c.eval_script.new.tree c.eval_script.new.outside)
+    (EndsAt (ways g.O.Outside.goes g.O.Outside.loses) c.args.tree.now c.args.outside.now c.args.place (λ style. read_so c.script-2.result.now) c.eval_script.new.tree c.eval_script.new.outside)
     (EndsAt (ways g.O.Outside.goes g.O.Outside.loses) c.args.tree.now c.args.outside.now c.args.place (λ style. script c.args.bracket.now) c.eval_script.new.tree c.eval_script.new.outside)
-    (λ e h q style at. at_prog (ap read_so (sym c.script.ensures)) (h q style at)) c.eval_script.ensures.runs
+    (λ e h q style at. at_prog (ap read_so (sym c.script-2.ensures)) (h q style at)) c.eval_script.ensures.runs
 
 pub evaluation::eval_text-returns-in_err-script-clause-runs : goal.evaluation::eval_text-returns-in_err-script-clause-runs
 evaluation::eval_text-returns-in_err-script-clause-runs g t c =
@@ -1408,6 +1456,16 @@ expressions::compute-parts-preserved g t c =
       here = here-trans c.args.tree.now c.parts.tree c.eval_operand.new.tree c.args.place c.parts.invariant.here (here_text c.eval_operand.result c.in_ok-value-in-Wants.value c.parts.tree c.eval_operand.new.tree c.args.place c.in_ok-value-in-Wants.ensures.text c.eval_operand.ensures.here);
       keeps = keeps-trans c.parts.invariant.keeps c.eval_operand.ensures.keeps;
     }
+
+pub expressions::condition-returns-in-Some-clause-runs : goal.expressions::condition-returns-in-Some-clause-runs
+expressions::condition-returns-in-Some-clause-runs g t c = λ q style at text is k V y r run.
+    let n = stands (tree_of c.args.tree.now q) (tree_there c.args.tree.now q _ at.names) in
+    let same = c.integers-style.ensures ∙ at.style_is in
+    let fits : FitsSigned w64 c.in-Some.number = search rules in
+    Conditions.test_goes style text k (ok (signed_decimal c.in-Some.number)) (signed_decimal c.in-Some.number) _ refl refl
+    (truth_of_number style (signed_decimal c.in-Some.number) c.in-Some.number fits (int_of-number style c.in-Some.number fits))
+    (Computing.computes_kept style text c.args.test.now is
+    (Computing.number_at_hand style c.integers-style.result c.args.test.now.nodes.items c.in-Some.number (signed_decimal c.in-Some.number) same n.1 (c.in-Some.ensures q n.0 at.names n.1) refl)) run
 
 pub expressions::condition-returns-in_err-value-clause-runs : goal.expressions::condition-returns-in_err-value-clause-runs
 expressions::condition-returns-in_err-value-clause-runs g t c =
