@@ -170,7 +170,6 @@ fn eval_commands<O: Outside>(
 /// Those of the words; 101 to 104 of a word that is spread; the stop 308; those of the call; want
 /// of memory.
 #[cycle(eval)]
-#[inline(never)]
 fn eval_command<O: Outside>(
     tree: &mut Tree,
     alloc: Global,
@@ -223,7 +222,6 @@ pub(crate) fn eval_word<O: Outside>(
 
 /// The text of a word that is one part: it is shared, and not copied.
 #[cycle(eval)]
-#[inline(never)]
 fn eval_lone_part<O: Outside>(
     tree: &mut Tree,
     alloc: Global,

@@ -1,4 +1,5 @@
 -- A script that was read, as it is evaluated.
+use Rattle.std.specs.Prelude.{[]}
 use Rattle.tcl_core.specs.Programs.Prog.{done, inside}
 use Rattle.tcl_core.specs.Programs.Wrap.{Deeper}
 use Rattle.tcl_language.specs.Instructions.{Program}

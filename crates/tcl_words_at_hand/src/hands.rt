@@ -106,9 +106,13 @@ pub fn sum_at_hand(tree: &Tree, alloc: Global, place: Place, script: &Prepared) 
     let Builtin::Expr = builtin_named(tree, alloc, place, word)? else {
         return None;
     };
-    let text = script_of(alloc, args).ok()?;
+    let Ok(text) = script_of(alloc, args) else {
+        return None;
+    };
     let style = tree.integers();
-    let kept = read_expression(tree, alloc, style, &text).ok()?;
+    let Ok(kept) = read_expression(tree, alloc, style, &text) else {
+        return None;
+    };
     hand_place(&text, &args[0]);
     let number = number_at(tree, place, style, &kept)?;
     Some(known_short(Value::from_int(number)))

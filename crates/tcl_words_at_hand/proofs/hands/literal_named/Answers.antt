@@ -8,5 +8,5 @@ use Rattle.tcl_words_at_hand.proofs.Steps.{within_fits}
 use Rattle.tcl_words_at_hand.proofs.hands.literal_named.Goals as goal
 
 pub returns-clause-named : goal.returns-clause-named
-returns-clause-named c = some_more c.plain_named.result (Named c.args.tree.now c.args.place c.in-Literal.word.now) (NamedBy c.args.tree.now c.args.place (seen_word c.args.word.now))
-    (λ b h. (c.in-Literal.word.now, ap seen_word c.in-Literal.is, within_fits c.in-Literal.word.now c.text_len-_within.ensures.within, h)) c.plain_named.ensures.named
+returns-clause-named c = some_more c.plain_named.result (Named c.args.tree.now c.args.place c.in-Literal.word) (NamedBy c.args.tree.now c.args.place (seen_word c.args.word.now))
+    (λ b h. (c.in-Literal.word, ap seen_word c.in-Literal.is, within_fits c.in-Literal.word c.text_len-_within.ensures.within, h)) c.plain_named.ensures.named
