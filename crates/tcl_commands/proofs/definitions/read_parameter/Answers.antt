@@ -25,5 +25,5 @@ returns-in-2-clause-refused c =
 
 pub returns-clause-refused : goal.returns-clause-refused
 returns-clause-refused c =
-    other_refused c.args.text.now c.in_ok-words.words (ap list_of (sym c.in_ok-own.ensures.cases) ∙ c.in_ok-words.ensures.read) c.args.before.now c.bad_name.result c.as_str-in_default.result.now
-    (λ e. absurd (omega arith)) (λ e. absurd (omega arith)) (c.as_str-in_default.ensures ∙ c.in_ok-text-in_default.ensures) c.bad_name.ensures
+    other_refused c.args.text.now c.in_ok-words.words (ap list_of (sym c.in_ok-own.ensures.cases) ∙ c.in_ok-words.ensures.read) c.args.before.now c.bad_name.result c.as_str.result.now
+    (λ e. absurd (omega arith)) (λ e. absurd (omega arith)) (c.as_str.ensures ∙ c.in_ok-text-in_default.ensures) c.bad_name.ensures

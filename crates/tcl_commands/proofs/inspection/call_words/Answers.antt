@@ -19,6 +19,6 @@ returns-in-Some c =
 pub returns-in_ok-text-in-None : goal.returns-in_ok-text-in-None
 returns-in_ok-text-in-None c =
     let same_number = ap (λ (z : ℤ). words_numbered (numbered (current c.frames_seen.result.now.frames) z) c.frames_seen.result.now.frames) (handed c.args.number c.ranges.number) in
-    let same : c.as_str-in-None.result.now ≡ c.args.word.now = c.as_str-in-None.ensures ∙ c.in_ok-text-in-None.ensures in
+    let same : c.as_str.result.now ≡ c.args.word.now = c.as_str.ensures ∙ c.in_ok-text-in-None.ensures in
     call_fails c.args.tree.now c.args.place c.args.word.now c.args.number c.frames_seen.result.now c.bad_level.result (c.in-None.ensures ∙ same_number) c.frames_seen.ensures
     (subst (λ (x : List ℕ). Interrupts c.bad_level.result (λ e. e ≡ Completed (failing (bad_level x)))) same c.bad_level.ensures)

@@ -16,4 +16,4 @@ returns-in-There c = λ rest. stands_there c.args.tree.now c.args.place c.in-The
 
 pub returns-in_ok-text-in-Missing : goal.returns-in_ok-text-in-Missing
 returns-in_ok-text-in-Missing c = Interrupts-more c.no_interpreter.result _ _ (λ e f rest. stands_nowhere c.args.tree.now c.args.place c.args.path.now c.args.word.now e rest (λ p at. c.in-Missing.ensures p at)
-    (f ∙ ap (λ (x : Text). Completed (failing (interpreters.no_interpreter x))) (c.as_str-in-Missing.ensures ∙ c.in_ok-text-in-Missing.ensures))) c.no_interpreter.ensures
+    (f ∙ ap (λ (x : Text). Completed (failing (interpreters.no_interpreter x))) (c.as_str.ensures ∙ c.in_ok-text-in-Missing.ensures))) c.no_interpreter.ensures
