@@ -1,5 +1,5 @@
 -- What a word names.
-use Rattle.std.proofs.Common.{◌≡◌, Option, Some, None, IfSome, ap, ◌∙◌}
+use Rattle.std.proofs.Common.{◌≡◌, List, [], ◌∷◌, length, get_or, Option, Some, None, IfSome, refl, ap, ◌∙◌, arith}
 use Rattle.std.specs.Option.{option_and_then}
 use Rattle.std.specs.Str.{bytes_eq}
 use Rattle.std.specs.Map.{lookup}
@@ -22,3 +22,8 @@ some_more (Some a) P Q f h = f a h
 -- the name by which the command is kept that a word names, and what stands under it
 pub names_builtin : (n : Node Own) (word name : Text) (builtin : Builtin) → command_name word ≡ Some name → command_in n.own name ≡ Some (command.Builtin builtin) → IsNamed n word builtin
 names_builtin n word name builtin e h = ap (λ (x : Option Text). kept_as x word n.own.commands) e ∙ ap (or_missing (Rattle.tcl_language.specs.Faults.invalid_command word)) h
+
+pub only_item : (xs : List Text) → length xs ≡ 1 → xs ≡ get_or xs 0 [] ∷ []
+only_item [] h = absurd (omega (arith, h))
+only_item (x ∷ []) h = refl
+only_item (x ∷ y ∷ ys) h = absurd (omega (arith, h))

@@ -1,6 +1,8 @@
 //! What is at hand: words, commands, and sums in brackets.
-ghost use Rattle.std.specs.Prelude.{◌≡◌, true, IfSome, option_copied};
+ghost use Rattle.std.specs.Prelude.{◌≡◌, ◌∷◌, [], true, false, IfSome};
 ghost use Rattle.tcl_builtins.specs.Kinds.{is_plain};
+ghost use Rattle.tcl_language.specs.Instructions.{fits};
+ghost use Rattle.tcl_parser.specs.declared.script.Part.TheVariants.{Script};
 ghost use Rattle.tcl_prepared.specs.Views.{seen_word};
 ghost use Rattle.tcl_words_at_hand.specs.Hands.{Named, NamedBy, EndsIn, IsSumIn, StandsFor};
 
@@ -9,7 +11,7 @@ use tcl_calls::expressions::{number_at, read_expression};
 use tcl_calls::lookup::kept_name;
 use tcl_calls::scripts::{hand_place, script_of};
 use tcl_frames::frames::Frames;
-use tcl_prepared::prepared::{Prepared, PreparedCommand, PreparedPart, PreparedWord};
+use tcl_prepared::prepared::{Bracket, Prepared, PreparedCommand, PreparedPart, PreparedWord};
 use tcl_run::steps::{frames_seen, known_short};
 use tcl_tree::builtin::Builtin;
 use tcl_tree::command::Command;
@@ -89,9 +91,13 @@ pub fn value_at_hand(frames: &Frames, word: &PreparedWord) -> Option<Value>
 /// The result of a script that is one `expr` of one word, where that is an expression of numbers
 /// at hand. Nothing is counted: [`count_sum`](crate::sums::count_sum) does that.
 pub fn sum_at_hand(tree: &Tree, alloc: Global, place: Place, script: &Prepared) -> Option<Value>
-    ensures { IfSome result (λ sum. IsSumIn tree.now place script.now sum) }
+    ensures at_hand { IfSome result (λ sum. IsSumIn tree.now place script.now sum) }
+    ensures short { IfSome result (λ sum. fits sum ≡ true) }
 {
-    let [PreparedCommand::Constant(literals)] = script.commands() else {
+    let [command] = script.commands() else {
+        return None;
+    };
+    let PreparedCommand::Constant(literals) = command else {
         return None;
     };
     if script.fault().is_some() {
@@ -118,6 +124,17 @@ pub fn sum_at_hand(tree: &Tree, alloc: Global, place: Place, script: &Prepared) 
     Some(known_short(Value::from_int(number)))
 }
 
+/// The script in brackets that a word is.
+fn bracket_of(word: &PreparedWord) -> Option<&Bracket>
+    ensures { IfSome result (λ bracket. seen_word word.now
+        ≡ record { parts = Script bracket.now ∷ []; expand = false }) }
+{
+    match word {
+        PreparedWord::Lone(PreparedPart::Bracket(bracket)) => Some(bracket),
+        _ => None,
+    }
+}
+
 /// What the last word of a call stands for, and whether it is a sum in brackets, which isn't
 /// counted yet.
 pub fn last_at_hand(
@@ -128,7 +145,7 @@ pub fn last_at_hand(
 ) -> Option<(Value, bool)>
     ensures { IfSome result (λ last. EndsIn tree.now place (seen_word word.now) last.1 last.0) }
 {
-    if let PreparedWord::Lone(PreparedPart::Bracket(bracket)) = word {
+    if let Some(bracket) = bracket_of(word) {
         let sum = sum_at_hand(tree, alloc, place, bracket.script())?;
         return Some((sum, true));
     }

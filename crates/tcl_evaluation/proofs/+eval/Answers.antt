@@ -800,7 +800,7 @@ evaluation::eval_bracket-returns-in_err-count_sum-clause-runs g t c =
     let p = err_from_is_err_and c.from_residual.result c.from_residual.ensures.1 in
     ran_err c.from_residual.result c.in_err-count_sum.field-0.0 p.0 _ _ _ p.1 p.2 c.in_err-count_sum.ensures.breaks
     (λ e h q style at. let n = stands (tree_of c.args.tree.now q) (tree_there c.args.tree.now q _ at.names) in
-    at_prog (ap read_so (sym c.script.ensures)) (h.1 q style n.0 at n.1 c.script.result.now c.in-Some.sum (sum_in c.args.tree.now style n.0 c.script.result.now c.in-Some.sum at.style_is (c.in-Some.ensures q n.0 at.names n.1))))
+    at_prog (ap read_so (sym c.script.ensures)) (h.1 q style n.0 at n.1 c.script.result.now c.in-Some.sum (sum_in c.args.tree.now style n.0 c.script.result.now c.in-Some.sum at.style_is (c.in-Some.ensures.at_hand q n.0 at.names n.1))))
 
 pub evaluation::eval_bracket-returns-in_err-count_sum-clause-here : goal.evaluation::eval_bracket-returns-in_err-count_sum-clause-here
 evaluation::eval_bracket-returns-in_err-count_sum-clause-here g t c = on_completion c.from_residual.result (IsHere c.args.tree.now c.count_sum.new.tree c.args.place) c.count_sum.ensures.here
@@ -808,7 +808,7 @@ evaluation::eval_bracket-returns-in_err-count_sum-clause-here g t c = on_complet
 pub evaluation::eval_bracket-returns-in_ok-count_sum-clause-runs : goal.evaluation::eval_bracket-returns-in_ok-count_sum-clause-runs
 evaluation::eval_bracket-returns-in_ok-count_sum-clause-runs g t c = λ q style at.
     let n = stands (tree_of c.args.tree.now q) (tree_there c.args.tree.now q _ at.names) in
-    at_prog (ap read_so (sym c.script.ensures)) (c.in_ok-count_sum.ensures.sums q style n.0 at n.1 c.script.result.now c.in-Some.sum (sum_in c.args.tree.now style n.0 c.script.result.now c.in-Some.sum at.style_is (c.in-Some.ensures q n.0 at.names n.1)))
+    at_prog (ap read_so (sym c.script.ensures)) (c.in_ok-count_sum.ensures.sums q style n.0 at n.1 c.script.result.now c.in-Some.sum (sum_in c.args.tree.now style n.0 c.script.result.now c.in-Some.sum at.style_is (c.in-Some.ensures.at_hand q n.0 at.names n.1)))
 
 pub evaluation::eval_bracket-returns-clause-runs : goal.evaluation::eval_bracket-returns-clause-runs
 evaluation::eval_bracket-returns-clause-runs g t c =

@@ -9,4 +9,4 @@ use Rattle.tcl_words_at_hand.proofs.hands.literal_named.Goals as goal
 
 pub returns-clause-named : goal.returns-clause-named
 returns-clause-named c = some_more c.plain_named.result (Named c.args.tree.now c.args.place c.in-Literal.word) (NamedBy c.args.tree.now c.args.place (seen_word c.args.word.now))
-    (λ b h. (c.in-Literal.word, ap seen_word c.in-Literal.is, within_fits c.in-Literal.word c.text_len-_within.ensures.within, h)) c.plain_named.ensures.named
+    (λ b h. (c.in-Literal.word, ap seen_word c.in-Literal.is, within_fits c.in-Literal.word c.text_len-within.ensures.within, h)) c.plain_named.ensures.named
