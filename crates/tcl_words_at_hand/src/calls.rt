@@ -7,14 +7,14 @@ ghost use Rattle.tcl_run.specs.Ends.{IfRan, OnCompletion};
 ghost use Rattle.tcl_run.specs.Runs.{IsHere, IsRunning, Keeps, ProceedsIn, ways};
 ghost use Rattle.tcl_words_at_hand.specs.Sums.{CallsAtHand, CallsNamed};
 
-use crate::hands::{last_at_hand, literal_named, value_at_hand};
+use crate::hands::{last_at_hand, literal_named, word_at_hand};
 use crate::sums::count_sum;
 use std::alloc::Global;
 use tcl_builtins::plain::call_plain;
 use tcl_prepared::prepared::PreparedWord;
 use tcl_run::interruption::Interruption;
 use tcl_run::outside::Outside;
-use tcl_run::steps::{charge, frames_seen};
+use tcl_run::steps::charge;
 use tcl_tree::builtin::Builtin;
 use tcl_tree::tree::{Place, Tree};
 use tcl_value::value::Value;
@@ -108,7 +108,7 @@ fn call_of_two<O: Outside>(
     ensures unchanged { IfNone result ((tree.new ≡ tree.old) × (outside.new ≡ outside.old)) }
 {
     let builtin = literal_named(tree, alloc, place, word)?;
-    let value = value_at_hand(frames_seen(tree, place)?, first)?;
+    let value = word_at_hand(tree, place, first)?;
     let (end, sums) = last_at_hand(tree, alloc, place, last)?;
     let args = [value, end];
     Some(call_words(tree, alloc, outside, place, builtin, sums, &args))

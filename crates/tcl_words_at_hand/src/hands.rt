@@ -76,8 +76,9 @@ pub fn literal_named(
     plain_named(tree, alloc, place, word)
 }
 
-/// What a word stands for, where it stands for itself or for a variable of the current frame.
-pub fn value_at_hand(frames: &Frames, word: &PreparedWord) -> Option<Value>
+/// What a word stands for over these frames, where it stands for itself or for a variable of the
+/// current one.
+fn value_at_hand(frames: &Frames, word: &PreparedWord) -> Option<Value>
     ensures { IfSome result (λ value. StandsFor frames.now.frames (seen_word word.now) value) }
 {
     let value = match word {
@@ -86,6 +87,14 @@ pub fn value_at_hand(frames: &Frames, word: &PreparedWord) -> Option<Value>
         _ => return None,
     };
     Some(known_short(value.clone().ok()?))
+}
+
+/// What a word stands for in the interpreter, where it stands for itself or for a variable of the
+/// current frame.
+pub fn word_at_hand(tree: &Tree, place: Place, word: &PreparedWord) -> Option<Value>
+    ensures { IfSome result (λ value. EndsIn tree.now place (seen_word word.now) false value) }
+{
+    value_at_hand(frames_seen(tree, place)?, word)
 }
 
 /// The result of a script that is one `expr` of one word, where that is an expression of numbers
@@ -149,6 +158,5 @@ pub fn last_at_hand(
         let sum = sum_at_hand(tree, alloc, place, bracket.script())?;
         return Some((sum, true));
     }
-    let value = value_at_hand(frames_seen(tree, place)?, word)?;
-    Some((value, false))
+    Some((word_at_hand(tree, place, word)?, false))
 }

@@ -16,7 +16,7 @@ use Rattle.tcl_words_at_hand.proofs.calls.call_of_one.Goals as goal
 pub returns-clause-runs : goal.returns-clause-runs
 returns-clause-runs g c =
     IfRan-more c.call_words.result
-    (CallsAtHand (ways g.O.Outside.goes g.O.Outside.loses) c.args.tree.now c.args.outside.now c.args.place c.in_ok-builtin.builtin c.in_ok-last_at_hand.field-0.1 (c.in_ok-last_at_hand.field-0.0 ∷ []) c.call_words.new.tree c.call_words.new.outside)
+    (CallsAtHand (ways g.O.Outside.goes g.O.Outside.loses) c.args.tree.now c.args.outside.now c.args.place c.in_ok-builtin.builtin c.in_ok-value.sums (c.in_ok-value.value ∷ []) c.call_words.new.tree c.call_words.new.outside)
     (EndsFrom (ways g.O.Outside.goes g.O.Outside.loses) c.args.tree.now c.args.outside.now c.args.place (λ style. words (seen_word c.args.word.now ∷ seen_word c.args.last.now ∷ []) []) c.call_words.new.tree c.call_words.new.outside)
     (λ e h q style at.
     let n = stands (tree_of c.args.tree.now q) (tree_there c.args.tree.now q _ at.names) in
@@ -27,10 +27,10 @@ returns-clause-runs g c =
       front = seen_word c.args.word.now ∷ [];
       last = seen_word c.args.last.now;
       before = b.0 ∷ [];
-      text = c.in_ok-last_at_hand.field-0.0;
+      text = c.in_ok-value.value;
       words_are = refl;
       args_are = refl;
       stand = (literal_stands n.0.own.chain.frames (seen_word c.args.word.now) b.0 b.1 b.2, tt);
-      ends = subst (λ (s : Integers). EndsAs s n.0 (seen_word c.args.last.now) c.in_ok-last_at_hand.field-0.1 c.in_ok-last_at_hand.field-0.0) at.style_is (c.in_ok-last_at_hand.ensures q n.0 at.names n.1);
+      ends = subst (λ (s : Integers). EndsAs s n.0 (seen_word c.args.last.now) c.in_ok-value.sums c.in_ok-value.value) at.style_is (c.in_ok-value.ensures q n.0 at.names n.1);
     }))
     c.call_words.ensures.runs

@@ -50,10 +50,10 @@ returns-then-sums-clause-keeps g c = keeps-trans c.count_sum.ensures.keeps c.cal
 
 pub returns-clause-runs : goal.returns-clause-runs
 returns-clause-runs g c =
-    IfRan-more c.call_plain_command.result
-    (CallsNamed (ways g.O.Outside.goes g.O.Outside.loses) c.args.tree.now c.args.outside.now c.args.place c.args.builtin c.args.args.now c.call_plain_command.new.tree c.call_plain_command.new.outside)
-    (CallsAtHand (ways g.O.Outside.goes g.O.Outside.loses) c.args.tree.now c.args.outside.now c.args.place c.args.builtin c.args.sums c.args.args.now c.call_plain_command.new.tree c.call_plain_command.new.outside)
+    IfRan-more c.call_plain_command-2.result
+    (CallsNamed (ways g.O.Outside.goes g.O.Outside.loses) c.args.tree.now c.args.outside.now c.args.place c.args.builtin c.args.args.now c.call_plain_command-2.new.tree c.call_plain_command-2.new.outside)
+    (CallsAtHand (ways g.O.Outside.goes g.O.Outside.loses) c.args.tree.now c.args.outside.now c.args.place c.args.builtin c.args.sums c.args.args.now c.call_plain_command-2.new.tree c.call_plain_command-2.new.outside)
     (λ e h q style n at there ws call.
     let k = subst (λ (b : Bool). IsCall style n ws c.args.builtin b c.args.args.now) c.if-sums.false call in
     plain_goes style ws c.args.builtin c.args.args.now there k (h q style n at there k.word k.named))
-    c.call_plain_command.ensures.runs
+    c.call_plain_command-2.ensures.runs
