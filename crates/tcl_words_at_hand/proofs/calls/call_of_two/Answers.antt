@@ -30,7 +30,7 @@ returns-clause-runs g c =
       text = c.in_ok-end.end;
       words_are = refl;
       args_are = refl;
-      stand = (literal_stands n.0.own.chain.frames (seen_word c.args.word.now) b.0 b.1 b.2, c.in_ok-value.ensures q n.0 at.names n.1, tt);
+      stand = (literal_stands n.0.own.chain.frames (seen_word c.args.word.now) b.0 b.1 b.2, (c.in_ok-value.ensures q n.0 at.names n.1, tt));
       ends = subst (λ (s : Integers). EndsAs s n.0 (seen_word c.args.last.now) c.in_ok-end.sums c.in_ok-end.end) at.style_is (c.in_ok-end.ensures q n.0 at.names n.1);
     }))
     c.call_words.ensures.runs
