@@ -15,4 +15,4 @@ returns-then-is_text c = λ rest. goes_true c.args.tree.now c.args.place (bytes_
 pub returns : goal.returns
 returns c = Interrupts-more c.bad_option.result _ _ (λ e f rest. fails_false c.args.tree.now c.args.place (bytes_eq c.args.word.now (codes "-value")) rest (interpreters.bad_option c.args.word.now) e
     (is_no_word c.args.word.now (codes "-value") (untrue c.is_text.result _ c.is_text.ensures.1 c.if-is_text.false))
-    (f ∙ ap (λ (x : Text). Completed (failing (interpreters.bad_option x))) (c.as_str-2.ensures ∙ c.in_ok-text.ensures))) c.bad_option.ensures
+    (f ∙ ap (λ (x : Text). Completed (failing (interpreters.bad_option x))) (c.as_str.ensures ∙ c.in_ok-text.ensures))) c.bad_option.ensures
