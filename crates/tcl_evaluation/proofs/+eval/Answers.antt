@@ -805,8 +805,8 @@ evaluation::eval_bracket-returns-in_err-count_sum-clause-runs g t c =
 pub evaluation::eval_bracket-returns-in_err-count_sum-clause-here : goal.evaluation::eval_bracket-returns-in_err-count_sum-clause-here
 evaluation::eval_bracket-returns-in_err-count_sum-clause-here g t c = on_completion c.from_residual.result (IsHere c.args.tree.now c.count_sum.new.tree c.args.place) c.count_sum.ensures.here
 
-pub evaluation::eval_bracket-returns-in_ok-count_sum-clause-runs : goal.evaluation::eval_bracket-returns-in_ok-count_sum-clause-runs
-evaluation::eval_bracket-returns-in_ok-count_sum-clause-runs g t c = λ q style at.
+pub evaluation::eval_bracket-returns-in-Some-clause-runs : goal.evaluation::eval_bracket-returns-in-Some-clause-runs
+evaluation::eval_bracket-returns-in-Some-clause-runs g t c = λ q style at.
     let n = stands (tree_of c.args.tree.now q) (tree_there c.args.tree.now q _ at.names) in
     at_prog (ap read_so (sym c.script.ensures)) (c.in_ok-count_sum.ensures.sums q style n.0 at n.1 c.script.result.now c.in-Some.sum (sum_in c.args.tree.now style n.0 c.script.result.now c.in-Some.sum at.style_is (c.in-Some.ensures.at_hand q n.0 at.names n.1)))
 
@@ -842,7 +842,7 @@ evaluation::eval_value-returns-clause-runs g t c =
     IfRan-more c.eval_script.result
     (EndsAt (ways g.O.Outside.goes g.O.Outside.loses) c.args.tree.now c.args.outside.now c.args.place (λ style. read_so c.deref.result.now) c.eval_script.new.tree c.eval_script.new.outside)
     (EndsAt (ways g.O.Outside.goes g.O.Outside.loses) c.args.tree.now c.args.outside.now c.args.place (λ style. script c.args.value.now) c.eval_script.new.tree c.eval_script.new.outside)
-    (λ e h q style at. at_prog (ap read_so (sym (c.deref.ensures ∙ c.in_ok-script.ensures.read))) (h q style at)) c.eval_script.ensures.runs
+    (λ e h q style at. at_prog (ap read_so (sym (c.deref.ensures ∙ c.in_ok-script.ensures))) (h q style at)) c.eval_script.ensures.runs
 
 pub evaluation::eval_part-returns-in_err-value-in-Variable-clause-runs : goal.evaluation::eval_part-returns-in_err-value-in-Variable-clause-runs
 evaluation::eval_part-returns-in_err-value-in-Variable-clause-runs g t c =
@@ -2712,26 +2712,26 @@ pub hosting::puts-returns-then-eq-clause-runs : goal.hosting::puts-returns-then-
 hosting::puts-returns-then-eq-clause-runs g t c =
     let is = two_items c.args.args.now c.word-item.result c.text-item-then-args-lt3.result c.in-len2.len_at_least c.in-len2.len_below c.word-item.is c.text-item-then-args-lt3.is in
     let yes : bytes_eq c.word-item.result (codes "-nonewline") ≡ true = search rules in
-    IfRan-more c.write-then-eq.result (EndsFrom (ways g.O.Outside.goes g.O.Outside.loses) c.args.tree.now c.args.outside.now c.args.place (λ style. hosting.writes c.in_ok-stdout-in-len2.field-0 c.text-item-then-args-lt3.result) c.write-then-eq.new.tree c.write-then-eq.new.outside)
-    (EndsFrom (ways g.O.Outside.goes g.O.Outside.loses) c.args.tree.now c.args.outside.now c.args.place (λ style. hosting.puts c.args.args.now) c.write-then-eq.new.tree c.write-then-eq.new.outside)
+    IfRan-more c.write.result (EndsFrom (ways g.O.Outside.goes g.O.Outside.loses) c.args.tree.now c.args.outside.now c.args.place (λ style. hosting.writes c.in_ok-stdout-in-len2.field-0 c.text-item-then-args-lt3.result) c.write.new.tree c.write.new.outside)
+    (EndsFrom (ways g.O.Outside.goes g.O.Outside.loses) c.args.tree.now c.args.outside.now c.args.place (λ style. hosting.puts c.args.args.now) c.write.new.tree c.write.new.outside)
     (λ e h q style at. at_prog (ap hosting.puts is ∙ ap (λ b. either b (hosting.writes hosting.stdout c.text-item-then-args-lt3.result) (hosting.puts_line c.word-item.result c.text-item-then-args-lt3.result)) yes
-    ∙ ap (λ (x : Text). hosting.writes x c.text-item-then-args-lt3.result) (sym c.in_ok-stdout-in-len2.ensures)) (h q style at)) c.write-then-eq.ensures.runs
+    ∙ ap (λ (x : Text). hosting.writes x c.text-item-then-args-lt3.result) (sym c.in_ok-stdout-in-len2.ensures)) (h q style at)) c.write.ensures.runs
 
 pub hosting::puts-returns-then-eq-2-clause-runs : goal.hosting::puts-returns-then-eq-2-clause-runs
 hosting::puts-returns-then-eq-2-clause-runs g t c =
     let is = three_items c.args.args.now c.word-item-then-args-lt4.result c.channel-item.result c.text-item-then-args-lt4.result c.in-len3.len_at_least c.in-len3.len_below c.word-item-then-args-lt4.is c.channel-item.is c.text-item-then-args-lt4.is in
     let yes : bytes_eq c.word-item-then-args-lt4.result (codes "-nonewline") ≡ true = search rules in
-    IfRan-more c.write-then-eq-2-2.result (EndsFrom (ways g.O.Outside.goes g.O.Outside.loses) c.args.tree.now c.args.outside.now c.args.place (λ style. hosting.writes c.in_ok-text-in-len3-2.field-0 c.text-item-then-args-lt4.result) c.write-then-eq-2-2.new.tree c.write-then-eq-2-2.new.outside)
-    (EndsFrom (ways g.O.Outside.goes g.O.Outside.loses) c.args.tree.now c.args.outside.now c.args.place (λ style. hosting.puts c.args.args.now) c.write-then-eq-2-2.new.tree c.write-then-eq-2-2.new.outside)
+    IfRan-more c.write-then-eq-2.result (EndsFrom (ways g.O.Outside.goes g.O.Outside.loses) c.args.tree.now c.args.outside.now c.args.place (λ style. hosting.writes c.in_ok-text-in-len3-2.field-0 c.text-item-then-args-lt4.result) c.write-then-eq-2.new.tree c.write-then-eq-2.new.outside)
+    (EndsFrom (ways g.O.Outside.goes g.O.Outside.loses) c.args.tree.now c.args.outside.now c.args.place (λ style. hosting.puts c.args.args.now) c.write-then-eq-2.new.tree c.write-then-eq-2.new.outside)
     (λ e h q style at. at_prog (ap hosting.puts is ∙ ap (λ b. either b (hosting.writes c.channel-item.result c.text-item-then-args-lt4.result) hosting.puts_form) yes
-    ∙ ap (λ (x : Text). hosting.writes x c.text-item-then-args-lt4.result) (sym c.in_ok-text-in-len3-2.ensures)) (h q style at)) c.write-then-eq-2-2.ensures.runs
+    ∙ ap (λ (x : Text). hosting.writes x c.text-item-then-args-lt4.result) (sym c.in_ok-text-in-len3-2.ensures)) (h q style at)) c.write-then-eq-2.ensures.runs
 
 pub hosting::puts-returns-in_ok-stdout-in-len1-clause-runs : goal.hosting::puts-returns-in_ok-stdout-in-len1-clause-runs
 hosting::puts-returns-in_ok-stdout-in-len1-clause-runs g t c =
     let is = one_item c.args.args.now c.text-item.result c.in-len1.len_at_least c.in-len1.len_below c.text-item.is in
-    IfRan-more c.put_line-in-len1.result (EndsFrom (ways g.O.Outside.goes g.O.Outside.loses) c.args.tree.now c.args.outside.now c.args.place (λ style. hosting.puts_line c.in_ok-stdout-in-len1.field-0 c.text-item.result) c.put_line-in-len1.new.tree c.put_line-in-len1.new.outside)
-    (EndsFrom (ways g.O.Outside.goes g.O.Outside.loses) c.args.tree.now c.args.outside.now c.args.place (λ style. hosting.puts c.args.args.now) c.put_line-in-len1.new.tree c.put_line-in-len1.new.outside)
-    (λ e h q style at. at_prog (ap hosting.puts is ∙ ap (λ (x : Text). hosting.puts_line x c.text-item.result) (sym c.in_ok-stdout-in-len1.ensures)) (h q style at)) c.put_line-in-len1.ensures.runs
+    IfRan-more c.put_line.result (EndsFrom (ways g.O.Outside.goes g.O.Outside.loses) c.args.tree.now c.args.outside.now c.args.place (λ style. hosting.puts_line c.in_ok-stdout-in-len1.field-0 c.text-item.result) c.put_line.new.tree c.put_line.new.outside)
+    (EndsFrom (ways g.O.Outside.goes g.O.Outside.loses) c.args.tree.now c.args.outside.now c.args.place (λ style. hosting.puts c.args.args.now) c.put_line.new.tree c.put_line.new.outside)
+    (λ e h q style at. at_prog (ap hosting.puts is ∙ ap (λ (x : Text). hosting.puts_line x c.text-item.result) (sym c.in_ok-stdout-in-len1.ensures)) (h q style at)) c.put_line.ensures.runs
 
 pub hosting::puts-returns-else-eq-clause-runs : goal.hosting::puts-returns-else-eq-clause-runs
 hosting::puts-returns-else-eq-clause-runs g t c =
@@ -2835,9 +2835,9 @@ sourcing::source-returns-in_err-text-in-len1-clause-runs g t c =
 pub sourcing::source-returns-in_ok-text-in-len1-clause-runs : goal.sourcing::source-returns-in_ok-text-in-len1-clause-runs
 sourcing::source-returns-in_ok-text-in-len1-clause-runs g t c =
     let is = one_item c.args.args.now c.file-item.result c.in-len1.len_at_least c.in-len1.len_below c.file-item.is in
-    IfRan-more c.source_file-in-len1.result (EndsFrom (ways g.O.Outside.goes g.O.Outside.loses) c.args.tree.now c.args.outside.now c.args.place (λ style. sourcing.sources c.in_ok-text-in-len1.field-0) c.source_file-in-len1.new.tree c.source_file-in-len1.new.outside)
-    (EndsFrom (ways g.O.Outside.goes g.O.Outside.loses) c.args.tree.now c.args.outside.now c.args.place (λ style. sourcing.source c.args.args.now) c.source_file-in-len1.new.tree c.source_file-in-len1.new.outside)
-    (λ e h q style at. at_prog (ap sourcing.source is ∙ ap sourcing.sources (sym c.in_ok-text-in-len1.ensures)) (h q style at)) c.source_file-in-len1.ensures.runs
+    IfRan-more c.source_file.result (EndsFrom (ways g.O.Outside.goes g.O.Outside.loses) c.args.tree.now c.args.outside.now c.args.place (λ style. sourcing.sources c.in_ok-text-in-len1.field-0) c.source_file.new.tree c.source_file.new.outside)
+    (EndsFrom (ways g.O.Outside.goes g.O.Outside.loses) c.args.tree.now c.args.outside.now c.args.place (λ style. sourcing.source c.args.args.now) c.source_file.new.tree c.source_file.new.outside)
+    (λ e h q style at. at_prog (ap sourcing.source is ∙ ap sourcing.sources (sym c.in_ok-text-in-len1.ensures)) (h q style at)) c.source_file.ensures.runs
 
 pub sourcing::source-returns-in_default-clause-runs : goal.sourcing::source-returns-in_default-clause-runs
 sourcing::source-returns-in_default-clause-runs g t c =
