@@ -1,5 +1,5 @@
 -- Commands on their way.
-use Rattle.std.proofs.Common.{◌≡◌, ℕ, List, refl, subst, ◌∙◌}
+use Rattle.std.proofs.Common.{◌≡◌, ℕ, List, subst, ◌∙◌}
 use Rattle.std.specs.Prelude.{Result, Err}
 use Rattle.tcl_core.specs.Endings.{Completion}
 use Rattle.tcl_core.specs.Endings.Reply.{Completed}

@@ -84,8 +84,8 @@ fn number_of(text: &str) -> Option<i64>
     None
 }
 
-/// The value of a literal, unless it is longer than a value may be: the number alone, where the text
-/// is as that is written, so that it is read but once.
+/// The value of a literal, unless it is longer than a value may be: the number alone, where the
+/// text is as that is written, so that it is read but once.
 fn literal_text(text: &Text) -> Result<Option<Value>, AllocError>
     ensures text { IfOk result (λ found. IfSome found (λ value. value ≡ text.now)) }
 {

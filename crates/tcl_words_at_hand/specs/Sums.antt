@@ -24,8 +24,8 @@ Sums ways old o place new z end = (p : Path) (style : Integers) (n : Node Own) �
     Proceeds ways (language style) (tree_of old) o p (read_so script) (tree_of new) z (end text)
 
 -- a command that is named so goes so far, from its step on, with these arguments
-abbrev pub CallsNamed : {S : Type 0} → Ways S → Table → S → Place → Builtin → List Text → Table → S →
-    Ending → Type 0
+abbrev pub CallsNamed : {S : Type 0} → Ways S → Table → S → Place → Builtin → List Text → Table →
+    S → Ending → Type 0
 CallsNamed ways old o place builtin args new z e = (p : Path) (style : Integers) (n : Node Own) →
     IsAt old place p style → tree_of old p ≡ Some n → (word : Text) → IsNamed n word builtin →
     Proceeds ways (language style) (tree_of old) o p (words [] (word ∷ args)) (tree_of new) z e

@@ -54,8 +54,8 @@ fn call_words<O: Outside>(
 ) -> Result<Value, Interruption>
     requires running { IsRunning tree.old place }
     requires plain { is_plain builtin ≡ true }
-    ensures runs { IfRan result (CallsAtHand (ways O.goes O.loses) tree.old outside.old place builtin
-        sums args.now tree.new outside.new) }
+    ensures runs { IfRan result (CallsAtHand (ways O.goes O.loses) tree.old outside.old place
+        builtin sums args.now tree.new outside.new) }
     ensures here { OnCompletion result (IsHere tree.old tree.new place) }
     ensures keeps { Keeps O.entries_left tree.old tree.new outside.old outside.new }
 {
