@@ -1,14 +1,18 @@
 //! Scripts that words are put together to.
-ghost use Rattle.std.specs.Prelude.{◌≡◌, true, false, IfOk, IfErr};
+ghost use Rattle.std.specs.Prelude.{◌≡◌, ◌∷◌, [], true, false, IfOk, IfErr, IfSome, IsTrue};
+ghost use Rattle.std.specs.Str.{chars};
+ghost use Rattle.tcl_characters.specs.Texts.{is_among};
 ghost use Rattle.tcl_core.specs.Endings.Reply.{Completed};
 ghost use Rattle.tcl_language.specs.Instructions.{too_long as too_long_error, fits};
 ghost use Rattle.tcl_language.specs.Words.{concat as concatenated};
+ghost use Rattle.tcl_list_texts.specs.Joining.{trimmed, white};
 ghost use Rattle.tcl_run.specs.Ends.{Interrupts};
 
-use std::alloc::Global;
+use std::alloc::{AllocError, Global};
 use tcl_list_texts::joining::concat;
 use tcl_run::failure::refused;
 use tcl_run::interruption::Interruption;
+use tcl_text::limit::MOST_BYTES;
 use tcl_value::value::Value;
 
 /// Hands the place on that a value's text keeps: a hint, see [`Value::place`].
@@ -16,6 +20,43 @@ pub fn hand_place(from: &Value, to: &Value) {
     if let Some(place) = from.place() {
         to.keep_place(place);
     }
+}
+
+/// Whether a character is none of the white space that `concat` trims. That of letters outside of
+/// ASCII isn't.
+fn is_past_white(letter: char) -> bool
+    ensures { IsTrue result → is_among (chars white) letter ≡ false }
+{
+    letter > ' '
+}
+
+/// Whether a text begins and ends with characters that `concat` trims off none of.
+fn has_full_ends(text: &str) -> bool
+    ensures { IsTrue result → trimmed text.now ≡ text.now }
+{
+    let mut letters = text.chars();
+    let Some(first) = letters.next() else {
+        return false;
+    };
+    let mut letters = text.chars();
+    let Some(last) = letters.next_back() else {
+        return false;
+    };
+    let _front = letters.as_str();
+    is_past_white(first) && is_past_white(last)
+}
+
+/// What a single word is put together to, where it is the word itself at a glance.
+fn full_word(alloc: Global, word: &Value) -> Result<Option<Value>, AllocError>
+    ensures { IfOk result (λ found. IfSome found (λ script.
+        (script ≡ concatenated (word.now ∷ [])) ×
+        (fits (concatenated (word.now ∷ [])) ≡ true))) }
+{
+    let text = word.text(alloc)?;
+    if text.len() > MOST_BYTES || !has_full_ends(text.as_str()) {
+        return Ok(None);
+    }
+    Ok(Some(Value::from_short_text(text)))
 }
 
 /// The script that words are put together to, as `concat` puts them: trimmed of white space, with a
@@ -31,6 +72,11 @@ pub fn script_of(alloc: Global, words: &[Value]) -> Result<Value, Interruption>
         (λ i. Interrupts i (λ e. (fits (concatenated words.now) ≡ false) ×
         (e ≡ Completed too_long_error))) }
 {
+    if let [word] = words {
+        if let Some(script) = full_word(alloc, word)? {
+            return Ok(script);
+        }
+    }
     match concat(alloc, words) {
         Ok(script) => {
             if let [first, ..] = words {

@@ -7,7 +7,7 @@ use Rattle.tcl_core.specs.Endings.Reply.{Completed, Stop, Exit, Cut}
 use Rattle.tcl_core.specs.Entries.{Answer, Entry, HostReply}
 use Rattle.tcl_core.specs.Entries as core
 use Rattle.tcl_core.specs.Entries.Answer.{Replied, Heard, Nobody}
-use Rattle.tcl_core.specs.Entries.Said.{Finished, Missed}
+use Rattle.tcl_core.specs.Entries.Said.{Finished}
 use Rattle.tcl_core.specs.Paths.{Height, Path, Text, rise_to}
 use Rattle.tcl_core.specs.Programs.{or_lost}
 use Rattle.tcl_core.specs.Programs.Prog.{call, done}
@@ -20,14 +20,13 @@ use Rattle.tcl_flow.specs.Stopping.{reply_of as stop_reply}
 use Rattle.tcl_host.specs.declared.reply.HostReply.{HostReply as TheirReply}
 use Rattle.tcl_flow.specs.View.{completion_of}
 use Rattle.tcl_language.specs.Instructions.{Program}
-use Rattle.tcl_language.specs.Interpreters.{finished, nobody_at}
+use Rattle.tcl_language.specs.Interpreters.{finished}
 use Rattle.tcl_language.specs.Table.{serve}
 use Rattle.tcl_language_laws.specs.Language.{language}
-use Rattle.tcl_run.specs.Ends.{Breaks, Completes, IfEnded, Interrupts, OnCompletion, Says, WhereMemory, cause_of}
+use Rattle.tcl_run.specs.Ends.{Breaks, Completes, IfEnded, Interrupts, Says, WhereMemory, cause_of}
 use Rattle.tcl_run.specs.Notifying.{WasUnfound}
 use Rattle.tcl_run.specs.Outsides.{Answers, AnswersFor, ComesNext, OnEntry, told_to, reply_of as host_reply}
 use Rattle.tcl_run.specs.Runs.{IsAt, IsHere, IsLoss, IsRunning, IsSteady, IsThere, Proceeds, ProceedsAt, Ways}
-use Rattle.tcl_run.specs.Runs.IsLoss.{unlost}
 use Rattle.tcl_run.specs.declared.interruption.Interruption.{Interruption}
 use Rattle.tcl_run.specs.declared.interruption.Interruption.TheVariants as interruption
 use Rattle.tcl_run.specs.declared.outside.Turn.{Turn}
@@ -35,7 +34,7 @@ use Rattle.tcl_run.specs.declared.outside.Turn.TheVariants as turn
 use Rattle.tcl_run.proofs.Endings.{Breaks-more, Completes-all, IfEnded-both, IfRan-more, Interrupts-more, ended_so, memory_err, breaks, ran_err}
 use Rattle.tcl_run.proofs.Losing.{lost_once, lost_twice}
 use Rattle.tcl_run.proofs.Proceeding.{answers_here, answers_on, answers_passed, at_prog, at_reply, calls_out, completed, enters_exiting, enters_lost, enters_on, finds_nobody, hears_on, misses_on, stopped, stopped_by}
-use Rattle.tcl_run.proofs.Steady.{called_here, holds_named, same_path, stands, steady-trans, steady_holds}
+use Rattle.tcl_run.proofs.Steady.{called_here, holds_named, stands, steady-trans, steady_holds}
 use Rattle.tcl_text.specs.declared.integer.Integers.{Integers}
 use Rattle.tcl_tree.proofs.CoreLemmas.{tree_there}
 use Rattle.tcl_tree.specs.Gone.{Holds}
@@ -44,7 +43,24 @@ use Rattle.tcl_tree.specs.TreeOf.{tree_of, marks_of, Names}
 use Rattle.tcl_tree.specs.declared.tree.Tree.{Tree as Table}
 use Rattle.tcl_tree.specs.declared.tree.Place.{Place as TablePlace}
 use Rattle.tcl_evaluation.specs.View.{Leads}
-use Rattle.tcl_evaluation.specs.Waiting.{AnswersBy, CallsOut, EndsBefore, EndsEntry, EndsWait, ExitOf, HandsIn, HearsSo, IsNoCompletion, MissesEntry, MissesSo, WaitsOn, Wherever, depth_there, gone_stop, told_end, told_next, waiting}
+use Rattle.tcl_evaluation.specs.Waiting.{
+  AnswersBy,
+  CallsOut,
+  EndsBefore,
+  EndsEntry,
+  EndsWait,
+  ExitOf,
+  HandsIn,
+  HearsSo,
+  IsNoCompletion,
+  MissesEntry,
+  MissesSo,
+  WaitsOn,
+  Wherever,
+  depth_there,
+  told_next,
+  waiting,
+}
 use Rattle.tcl_evaluation.proofs.Targets.{came}
 
 -- ## How an entry ended

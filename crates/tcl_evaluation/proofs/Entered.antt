@@ -1,7 +1,25 @@
 -- What comes of asking an interpreter for an evaluation.
-use Rattle.std.proofs.Common.{◌≡◌, ℕ, ◌≤◌, Bool, true, false, List, [], ◌∷◌, length, Some, None, refl, sym, ◌∙◌, ap, subst, arith}
+use Rattle.std.proofs.Common.{
+  ◌≡◌,
+  ℕ,
+  ◌≤◌,
+  Bool,
+  true,
+  false,
+  List,
+  [],
+  ◌∷◌,
+  length,
+  Some,
+  None,
+  sym,
+  ◌∙◌,
+  ap,
+  subst,
+  arith,
+}
 use Rattle.std.specs.Prelude.{Result, nat_lt}
-use Rattle.tcl_core.specs.Endings.{Completion, Reply}
+use Rattle.tcl_core.specs.Endings.{Reply}
 use Rattle.tcl_core.specs.Endings.Reply.{Completed, Stop, Exit, Cut}
 use Rattle.tcl_core.specs.Entries.{Entry}
 use Rattle.tcl_core.specs.Entries.Entry.{InvokeHidden}
@@ -12,7 +30,6 @@ use Rattle.tcl_core.specs.Programs.Prog.{done, go}
 use Rattle.tcl_core.specs.Trees.{Tree, Node, depth_of, effect}
 use Rattle.tcl_core.specs.Trees.What.{Changed}
 use Rattle.tcl_language.specs.Control.{at_level, level_over}
-use Rattle.tcl_language.specs.Instructions.{Program}
 use Rattle.tcl_language.specs.Instructions.Instr.{Hidden, Invoke}
 use Rattle.tcl_language.specs.Interpreters.{asks_at}
 use Rattle.tcl_language_laws.specs.Language.{language}

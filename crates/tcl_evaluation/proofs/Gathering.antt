@@ -1,7 +1,7 @@
 -- What a loop comes to that keeps what its body gives.
 use Rattle.std.proofs.Common.{◌≡◌, ◌⊎◌, inl, inr, Bool, List, Some, None, subst}
 use Rattle.std.specs.Prelude.{Result, Ok, Err}
-use Rattle.tcl_core.specs.Endings.{Completion, Reply}
+use Rattle.tcl_core.specs.Endings.{Completion}
 use Rattle.tcl_core.specs.Endings.Reply.{Completed, Stop, Exit, Cut}
 use Rattle.tcl_core.specs.Paths.{Path, Text}
 use Rattle.tcl_core.specs.Programs.Prog.{done, go}

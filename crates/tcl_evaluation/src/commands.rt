@@ -87,7 +87,7 @@ pub fn call_hidden<O: Outside>(
 /// Calls a command by the word that named it.
 #[cycle(eval)]
 #[inline(never)]
-fn call_command<O: Outside>(
+pub(crate) fn call_command<O: Outside>(
     tree: &mut Tree,
     alloc: Global,
     outside: &mut O,

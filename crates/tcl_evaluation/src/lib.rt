@@ -1,6 +1,7 @@
 //! The evaluation of scripts over a tree of interpreters.
 #![tactic(auto)]
 
+mod at_hand;
 mod children;
 mod collecting;
 mod commands;

@@ -7,6 +7,7 @@ ghost use Rattle.tcl_run.specs.Runs.{IsHere, IsRunning, Keeps, ProceedsIn, ways}
 ghost use Rattle.tcl_value.specs.Texts.{AllWithin};
 ghost use Rattle.tcl_evaluation.specs.View.{AreSingle};
 
+use crate::at_hand::{call_at_hand, call_named};
 use crate::commands::call;
 use crate::evaluation::eval_word;
 use std::alloc::Global;
@@ -17,8 +18,7 @@ use tcl_run::outside::Outside;
 use tcl_run::steps::{charge, on_ok};
 use tcl_tree::tree::{Place, Tree};
 use tcl_value::value::Value;
-use tcl_words_at_hand::calls::{call_at_hand, call_plain_command};
-use tcl_words_at_hand::hands::plain_named;
+use tcl_words_at_hand::hands::command_named;
 
 /// Makes a step and calls the command that the first of these texts names. No texts are no command.
 ///
@@ -65,8 +65,8 @@ pub fn call_literals<O: Outside>(
     ensures keeps { Keeps O.entries_left tree.old tree.new outside.old outside.new }
 {
     if let [word, args @ ..] = words {
-        if let Some(builtin) = plain_named(tree, alloc, place, word) {
-            return call_plain_command(tree, alloc, outside, place, builtin, args);
+        if let Some(command) = command_named(tree, alloc, place, word) {
+            return call_named(tree, alloc, outside, place, &command, word, args);
         }
     }
     call_texts(tree, alloc, outside, place, words)

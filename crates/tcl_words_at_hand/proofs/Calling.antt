@@ -1,5 +1,23 @@
 -- What calls come to whose words are at hand.
-use Rattle.std.proofs.Common.{◌≡◌, ◌⊎◌, inl, inr, ℕ, Bool, true, false, List, [], ◌∷◌, ◌++◌, Some, refl, sym, ap, append-nil, append_assoc}
+use Rattle.std.proofs.Common.{
+  ◌≡◌,
+  ◌⊎◌,
+  inl,
+  inr,
+  ℕ,
+  true,
+  false,
+  List,
+  [],
+  ◌∷◌,
+  ◌++◌,
+  Some,
+  refl,
+  sym,
+  ap,
+  append-nil,
+  append_assoc,
+}
 use Rattle.std.specs.Prelude.{Ok}
 use Rattle.tcl_core.specs.Paths.{Path}
 use Rattle.tcl_core.specs.Endings.{ok}
@@ -8,7 +26,6 @@ use Rattle.tcl_core.specs.Runs.{Ending}
 use Rattle.tcl_core.specs.Trees.{Tree, Node}
 use Rattle.tcl_frames.specs.Chain.{read}
 use Rattle.tcl_frames.specs.Places.{Levels}
-use Rattle.tcl_interpreter.specs.declared.builtin.Builtin.{Builtin}
 use Rattle.tcl_language.specs.Instructions.{fits}
 use Rattle.tcl_language.specs.Scripts.{parts, words}
 use Rattle.tcl_language_laws.specs.Language.{language}
@@ -53,17 +70,17 @@ module _ {S : Type 0} {ways : Ways S} (style : Integers) where
   -- ## Calls
 
   -- all words stand for texts
-  pub plain_goes : {T V : Tree Own} {o z : S} {p : Path} {n : Node Own} {r : Ending} (ws : List WordRead) (builtin : Builtin) (args : List (List ℕ)) → T p ≡ Some n → (call : IsCall style n ws builtin false args) →
-      Proceeds ways (language style) T o p (words [] (call.word ∷ args)) V z r → Proceeds ways (language style) T o p (words ws []) V z r
-  plain_goes ws builtin args there call t =
+  pub plain_goes : {T V : Tree Own} {o z : S} {p : Path} {n : Node Own} {r : Ending} (ws : List WordRead) (word : List ℕ) (args : List (List ℕ)) → T p ≡ Some n → (call : IsCall style n ws word false args) →
+      Proceeds ways (language style) T o p (words [] (word ∷ args)) V z r → Proceeds ways (language style) T o p (words ws []) V z r
+  plain_goes ws word args there call t =
       at_prog (ap (λ (x : List WordRead). words x []) call.words_are)
       (all_stand call.front (call.last ∷ []) [] call.before there call.stand
       (stands_goes call.last [] call.before call.text there call.ends (at_prog (ap (words []) (sym call.args_are)) t)))
 
   -- the last one is a sum
-  pub sum_goes : {T U V : Tree Own} {o u z : S} {p : Path} {n : Node Own} {r : Ending} (ws : List WordRead) (builtin : Builtin) (args : List (List ℕ)) → T p ≡ Some n → (call : IsCall style n ws builtin true args) →
-      Proceeds ways (language style) T o p (read_so (read_script call.ends.2)) U u (Some (Completed (ok call.text))) → Proceeds ways (language style) U u p (words [] (call.word ∷ args)) V z r → Proceeds ways (language style) T o p (words ws []) V z r
-  sum_goes ws builtin args there call s t =
+  pub sum_goes : {T U V : Tree Own} {o u z : S} {p : Path} {n : Node Own} {r : Ending} (ws : List WordRead) (word : List ℕ) (args : List (List ℕ)) → T p ≡ Some n → (call : IsCall style n ws word true args) →
+      Proceeds ways (language style) T o p (read_so (read_script call.ends.2)) U u (Some (Completed (ok call.text))) → Proceeds ways (language style) U u p (words [] (word ∷ args)) V z r → Proceeds ways (language style) T o p (words ws []) V z r
+  sum_goes ws word args there call s t =
       at_prog (ap (λ (x : List WordRead). words x []) call.words_are)
       (all_stand call.front (call.last ∷ []) [] call.before there call.stand
       (single_goes style call.last [] call.before (ok call.text) call.text call.ends.0 refl refl
@@ -71,9 +88,9 @@ module _ {S : Type 0} {ways : Ways S} (style : Integers) where
       (at_prog (ap (words []) (sym call.args_are)) t)))
 
   -- and it ends the command
-  pub sum_ends : {T U : Tree Own} {o u : S} {p : Path} {n : Node Own} (ws : List WordRead) (builtin : Builtin) (args : List (List ℕ)) (e : Ending) → T p ≡ Some n → (call : IsCall style n ws builtin true args) → Stays e →
+  pub sum_ends : {T U : Tree Own} {o u : S} {p : Path} {n : Node Own} (ws : List WordRead) (word : List ℕ) (args : List (List ℕ)) (e : Ending) → T p ≡ Some n → (call : IsCall style n ws word true args) → Stays e →
       Proceeds ways (language style) T o p (read_so (read_script call.ends.2)) U u e → Proceeds ways (language style) T o p (words ws []) U u e
-  sum_ends ws builtin args e there call stays s =
+  sum_ends ws word args e there call stays s =
       at_prog (ap (λ (x : List WordRead). words x []) call.words_are)
       (all_stand call.front (call.last ∷ []) [] call.before there call.stand
       (word_stays style call.last [] call.before e stays

@@ -1,8 +1,8 @@
-mod Calling
+pub mod Calling
 pub mod Computing
 pub mod Found
 mod Naming
-mod Own
+pub mod Own
 pub mod Plainly
 pub mod Steps
 mod Summing

@@ -1,11 +1,14 @@
 -- Who stands in a tree has the same own part when counts have changed.
 use Rattle.std.proofs.Common.{◌≡◌, ℕ, suc, pred, List, Option, Some, None, refl, ◌∙◌, ap, subst, sym}
 use Rattle.std.proofs.lemmas.Option.{same_Some}
+use Rattle.std.specs.Prelude.{Ok}
 use Rattle.tcl_core.specs.Paths.{Path, strip}
 use Rattle.tcl_core.specs.Trees.{Tree, Node, effect, on_some, where_some}
 use Rattle.tcl_core.specs.Trees.What.{Charged, Nested, Unnested}
-use Rattle.tcl_interpreter.specs.declared.builtin.Builtin.{Builtin}
+use Rattle.tcl_interpreter.specs.declared.command.Command.{Command}
+use Rattle.tcl_language.specs.Naming.{command_name}
 use Rattle.tcl_tree.specs.Own.{Own}
+use Rattle.tcl_calls.specs.Found.{kept_as}
 use Rattle.tcl_words_at_hand.specs.Hands.{IsNamed}
 
 -- somebody stands there, with the own part that another has
@@ -31,5 +34,5 @@ pub then_own : (n : Node Own) (o x : Option (Node Own)) (h : HasOwn n o) → Has
 then_own n o x h g = (g.0, g.1, g.2 ∙ h.2)
 
 -- a word names the same
-pub named_own : (n m : Node Own) (word : List ℕ) (builtin : Builtin) → m.own ≡ n.own → IsNamed n word builtin → IsNamed m word builtin
-named_own n m word builtin e h = subst (λ (x : Own). Rattle.tcl_calls.specs.Found.kept_as (Rattle.tcl_language.specs.Naming.command_name word) word x.commands ≡ Rattle.std.specs.Prelude.Ok (Rattle.tcl_interpreter.specs.declared.command.Command.TheVariants.Builtin builtin)) (sym e) h
+pub named_own : (n m : Node Own) (word : List ℕ) (named : Command) → m.own ≡ n.own → IsNamed n word named → IsNamed m word named
+named_own n m word named e h = subst (λ (x : Own). kept_as (command_name word) word x.commands ≡ Ok named) (sym e) h

@@ -1,5 +1,20 @@
 -- How far sums are evaluated.
-use Rattle.std.proofs.Common.{◌≡◌, ℕ, zero, suc, List, [], ◌∷◌, Option, Some, None, refl, sym, ap, subst, arith}
+use Rattle.std.proofs.Common.{
+  ◌≡◌,
+  ℕ,
+  zero,
+  suc,
+  List,
+  [],
+  ◌∷◌,
+  Some,
+  None,
+  refl,
+  sym,
+  ap,
+  subst,
+  arith,
+}
 use Rattle.std.specs.Prelude.{Result, Ok, Err, IfErr, OnOk}
 use Rattle.tcl_core.specs.Paths.{Path}
 use Rattle.tcl_core.specs.Endings.{Reply, ok}
@@ -29,8 +44,16 @@ use Rattle.tcl_words_at_hand.specs.Hands.{IsSum}
 use Rattle.tcl_words_at_hand.specs.Scripts.{read_so}
 use Rattle.tcl_words_at_hand.proofs.Computing.{computes_kept, expr_runs, number_at_hand}
 use Rattle.tcl_words_at_hand.proofs.Found.{call_found}
-use Rattle.tcl_words_at_hand.proofs.Own.{HasOwn, charged_own, named_own, nested_own, then_own}
-use Rattle.tcl_words_at_hand.proofs.Steps.{charged_calls, charged_stops, command_goes, command_stays, is_over, lends, read_refused, reads_end}
+use Rattle.tcl_words_at_hand.proofs.Own.{charged_own, named_own, nested_own, then_own}
+use Rattle.tcl_words_at_hand.proofs.Steps.{
+  charged_calls,
+  charged_stops,
+  command_goes,
+  command_stays,
+  is_over,
+  lends,
+  reads_end,
+}
 
 -- a level that is refused ends what wanted it
 pub deep_stays : (n : ℕ) → Stays (Some (too_deep_at n))
@@ -61,7 +84,7 @@ module _ {S : Type 0} {ways : Ways S} (style : Integers) {T U V W : Tree Own} {o
       let m = then_own n (U p) (V p) u v in
       let hand : IsNumberAtHand m.0.own.chain.frames style sum.kept.nodes.items sum.number = subst (λ (x : Own). IsNumberAtHand x.chain.frames style sum.kept.nodes.items sum.number) (sym m.2) sum.at_hand in
       let run : Proceeds ways (language style) V z p (called style (sum.word ∷ sum.argument ∷ [])) V z (Some (Completed (ok text))) =
-      call_found style sum.word (sum.argument ∷ []) (command.Builtin Expr) m.1 (named_own n m.0 sum.word Expr m.2 sum.named)
+      call_found style sum.word (sum.argument ∷ []) (command.Builtin Expr) m.1 (named_own n m.0 sum.word (command.Builtin Expr) m.2 sum.named)
       (expr_runs style (sum.argument ∷ []) (omega arith) sum.short (computes_kept style (concat (sum.argument ∷ [])) sum.kept sum.is_kept (number_at_hand style style sum.kept.nodes.items sum.number text refl m.1 hand sum.comes))) in
       reads_end style script free nested unnested (at_prog (ap (λ (r : Reading). commands r.commands r.fault []) sum.is)
       (command_goes style (literal_word sum.word ∷ literal_word sum.argument ∷ []) [] None [] (ok text) text refl refl

@@ -7,8 +7,8 @@ use Rattle.tcl_core.specs.Trees.{Node}
 use Rattle.tcl_expr.specs.declared.tree.ExprTree.{ExprTree}
 use Rattle.tcl_frames.specs.Chain.{read}
 use Rattle.tcl_frames.specs.Places.{Levels}
-use Rattle.tcl_interpreter.specs.declared.builtin.Builtin.{Builtin}
 use Rattle.tcl_interpreter.specs.declared.builtin.Builtin.TheVariants.{Expr}
+use Rattle.tcl_interpreter.specs.declared.command.Command.{Command}
 use Rattle.tcl_interpreter.specs.declared.command.Command.TheVariants as command
 use Rattle.tcl_language.specs.Instructions.{fits}
 use Rattle.tcl_language.specs.Words.{concat}
@@ -44,19 +44,14 @@ AllStand frames (w ∷ words) (t ∷ texts) = StandsFor frames w t × AllStand f
 
 -- ## Commands
 
--- a word names a built-in command in the interpreter
-abbrev pub IsNamed : Node Own → Text → Builtin → Type 0
-IsNamed n word builtin = found n word ≡ Ok (command.Builtin builtin)
+-- a word names a command in the interpreter
+abbrev pub IsNamed : Node Own → Text → Command → Type 0
+IsNamed n word named = found n word ≡ Ok named
 
 -- and so in the interpreter that a place names
-abbrev pub Named : Table → Place → Text → Builtin → Type 0
-Named t place word builtin = (p : Path) (n : Node Own) → Names t place p → tree_of t p ≡ Some n →
-    IsNamed n word builtin
-
--- a word that stands for itself names it
-abbrev pub NamedBy : Table → Place → WordRead → Builtin → Type 0
-NamedBy t place word builtin = (text : Text) × (word ≡ literal_word text) × (fits text ≡ true) ×
-    Named t place text builtin
+abbrev pub Named : Table → Place → Text → Command → Type 0
+Named t place word named = (p : Path) (n : Node Own) → Names t place p → tree_of t p ≡ Some n →
+    IsNamed n word named
 
 -- ## Sums: scripts that are one `expr` of numbers at hand
 
@@ -70,7 +65,7 @@ pub record IsSum (style : Integers) (n : Node Own) (script : Reading) (text : Te
     fault = None;
   }
   pub within : AllWithin (word ∷ argument ∷ [])
-  pub named : IsNamed n word Expr
+  pub named : IsNamed n word (command.Builtin Expr)
   pub short : fits (concat (argument ∷ [])) ≡ true
   pub kept : ExprTree
   pub is_kept : IsKept style (concat (argument ∷ [])) kept
@@ -103,11 +98,9 @@ KeepsOwn old new place = (p : Path) (n : Node Own) → Names old place p → tre
 -- ## Calls
 
 -- The words are those of a call: all but the last stand for texts, and the last one ends them, be
--- it a sum or not. The first names a built-in command.
-pub record IsCall (style : Integers) (n : Node Own) (words : List WordRead) (builtin : Builtin)
+-- it a sum or not.
+pub record IsCall (style : Integers) (n : Node Own) (words : List WordRead) (word : Text)
     (sums : Bool) (args : List Text) : Type 0 where
-  pub word : Text
-  pub named : IsNamed n word builtin
   pub front : List WordRead
   pub last : WordRead
   pub before : List Text

@@ -4,6 +4,8 @@ use Rattle.tcl_core.specs.Paths.{Text, Path}
 use Rattle.tcl_core.specs.Runs.{Ending}
 use Rattle.tcl_core.specs.Trees.{Node}
 use Rattle.tcl_interpreter.specs.declared.builtin.Builtin.{Builtin}
+use Rattle.tcl_interpreter.specs.declared.command.Command.{Command}
+use Rattle.tcl_interpreter.specs.declared.command.Command.TheVariants as command
 use Rattle.tcl_language.specs.Scripts.{words}
 use Rattle.tcl_language_laws.specs.Language.{language}
 use Rattle.tcl_parser.specs.Words.{Reading, WordRead}
@@ -23,17 +25,23 @@ Sums ways old o place new z end = (p : Path) (style : Integers) (n : Node Own) �
     IsSum style n script text →
     Proceeds ways (language style) (tree_of old) o p (read_so script) (tree_of new) z (end text)
 
--- a command that is named so goes so far, from its step on, with these arguments
-abbrev pub CallsNamed : {S : Type 0} → Ways S → Table → S → Place → Builtin → List Text → Table →
-    S → Ending → Type 0
-CallsNamed ways old o place builtin args new z e = (p : Path) (style : Integers) (n : Node Own) →
-    IsAt old place p style → tree_of old p ≡ Some n → (word : Text) → IsNamed n word builtin →
+-- a command that the word names goes so far, from its step on, with these arguments
+abbrev pub CallsNamed : {S : Type 0} → Ways S → Table → S → Place → Command → Text → List Text →
+    Table → S → Ending → Type 0
+CallsNamed ways old o place named word args new z e = (p : Path) (style : Integers)
+    (n : Node Own) → IsAt old place p style → tree_of old p ≡ Some n → IsNamed n word named →
     Proceeds ways (language style) (tree_of old) o p (words [] (word ∷ args)) (tree_of new) z e
 
--- and so does each command whose words are such a call
-abbrev pub CallsAtHand : {S : Type 0} → Ways S → Table → S → Place → Builtin → Bool → List Text →
+-- and so does a built-in one, by whatever word it is called
+abbrev pub CallsBuiltin : {S : Type 0} → Ways S → Table → S → Place → Builtin → List Text →
     Table → S → Ending → Type 0
-CallsAtHand ways old o place builtin sums args new z e = (p : Path) (style : Integers)
-    (n : Node Own) → IsAt old place p style → tree_of old p ≡ Some n → (ws : List WordRead) →
-    IsCall style n ws builtin sums args →
+CallsBuiltin ways old o place builtin args new z e =
+    (word : Text) → CallsNamed ways old o place (command.Builtin builtin) word args new z e
+
+-- and so does each command whose words are such a call
+abbrev pub CallsAtHand : {S : Type 0} → Ways S → Table → S → Place → Command → Text → Bool →
+    List Text → Table → S → Ending → Type 0
+CallsAtHand ways old o place named word sums args new z e = (p : Path) (style : Integers)
+    (n : Node Own) → IsAt old place p style → tree_of old p ≡ Some n → IsNamed n word named →
+    (ws : List WordRead) → IsCall style n ws word sums args →
     Proceeds ways (language style) (tree_of old) o p (words ws []) (tree_of new) z e

@@ -1,10 +1,11 @@
 //! What is at hand: words, commands, and sums in brackets.
 ghost use Rattle.std.specs.Prelude.{◌≡◌, ◌∷◌, [], true, false, IfSome};
 ghost use Rattle.tcl_builtins.specs.Kinds.{is_plain};
+ghost use Rattle.tcl_interpreter.specs.declared.command.Command.TheVariants as variant;
 ghost use Rattle.tcl_language.specs.Instructions.{fits};
 ghost use Rattle.tcl_parser.specs.declared.script.Part.TheVariants.{Script};
 ghost use Rattle.tcl_prepared.specs.Views.{seen_word};
-ghost use Rattle.tcl_words_at_hand.specs.Hands.{Named, NamedBy, EndsIn, IsSumIn, StandsFor};
+ghost use Rattle.tcl_words_at_hand.specs.Hands.{Named, EndsIn, IsSumIn, StandsFor};
 
 use std::alloc::Global;
 use tcl_calls::expressions::{number_at, read_expression};
@@ -33,47 +34,24 @@ fn is_plain(builtin: Builtin) -> bool
     }
 }
 
-/// The built-in command that a word names in the interpreter, if it names one. Where memory is
-/// wanting, none.
-pub fn builtin_named(tree: &Tree, alloc: Global, place: Place, word: &Value) -> Option<Builtin>
-    ensures { IfSome result (λ builtin. Named tree.now place word.now builtin) }
+/// The built-in command that a command is, where it is a plain one.
+pub fn plain_builtin(command: &Command) -> Option<Builtin>
+    ensures is { IfSome result (λ builtin. command.now ≡ variant.Builtin builtin) }
+    ensures plain { IfSome result (λ builtin. is_plain builtin ≡ true) }
 {
-    let Ok(Some(name)) = kept_name(alloc, word) else {
-        return None;
-    };
-    match tree.command_near(place, &name)? {
-        Command::Builtin(builtin) => Some(*builtin),
+    match command {
+        Command::Builtin(builtin) if is_plain(*builtin) => Some(*builtin),
         _ => None,
     }
 }
 
-/// The same, where the command is a plain one.
-pub fn plain_named(tree: &Tree, alloc: Global, place: Place, word: &Value) -> Option<Builtin>
-    ensures named { IfSome result (λ builtin. Named tree.now place word.now builtin) }
-    ensures plain { IfSome result (λ builtin. is_plain builtin ≡ true) }
+/// The command that a word names in the interpreter, if it names one. Where memory is wanting,
+/// none.
+pub fn command_named(tree: &Tree, alloc: Global, place: Place, word: &Value) -> Option<Command>
+    ensures { IfSome result (λ named. Named tree.now place word.now named) }
 {
-    let builtin = builtin_named(tree, alloc, place, word)?;
-    if is_plain(builtin) {
-        return Some(builtin);
-    }
-    None
-}
-
-/// The plain command that a word names which stands for itself.
-pub fn literal_named(
-    tree: &Tree,
-    alloc: Global,
-    place: Place,
-    word: &PreparedWord,
-) -> Option<Builtin>
-    ensures named { IfSome result (λ builtin. NamedBy tree.now place (seen_word word.now) builtin) }
-    ensures plain { IfSome result (λ builtin. is_plain builtin ≡ true) }
-{
-    let PreparedWord::Literal(word) = word else {
-        return None;
-    };
-    let _within = word.text_len();
-    plain_named(tree, alloc, place, word)
+    let name = kept_name(alloc, word).ok()??;
+    tree.command_near(place, &name)?.clone().ok()
 }
 
 /// What a word stands for over these frames, where it stands for itself or for a variable of the
@@ -118,7 +96,10 @@ pub fn sum_at_hand(tree: &Tree, alloc: Global, place: Place, script: &Prepared) 
     if args.len() != 1 {
         return None;
     }
-    let Builtin::Expr = builtin_named(tree, alloc, place, word)? else {
+    let Command::Builtin(builtin) = command_named(tree, alloc, place, word)? else {
+        return None;
+    };
+    let Builtin::Expr = builtin else {
         return None;
     };
     let Ok(text) = script_of(alloc, args) else {

@@ -1,4 +1,22 @@
-use Rattle.std.proofs.Common.{◌≡◌, ◌≤◌, [], ◌∷◌, ◌++◌, List, ℕ, Some, length, drop, rules, sym, ap, refl, ◌∙◌, arith, vec_len, subst}
+use Rattle.std.proofs.Common.{
+  ◌≡◌,
+  ◌≤◌,
+  [],
+  ◌∷◌,
+  ◌++◌,
+  List,
+  ℕ,
+  Some,
+  length,
+  drop,
+  rules,
+  sym,
+  ap,
+  refl,
+  ◌∙◌,
+  arith,
+  subst,
+}
 use Rattle.std.proofs.lemmas.Result.{err_from_is_err_and}
 use Rattle.std.specs.String.{string_bytes}
 use Rattle.tcl_core.specs.Paths.{Path}
@@ -48,7 +66,6 @@ use Rattle.tcl_evaluation.proofs.Catching.{caught_ok, caught_err, eval_runs, eva
 use Rattle.tcl_evaluation.specs.View.{targeted, unhidden}
 use Rattle.std.proofs.Common.{false}
 use Rattle.std.specs.Prelude.{Err}
-use Rattle.tcl_run.specs.Runs.{IsThere}
 use Rattle.tcl_text.specs.declared.integer.Integers.{Integers}
 use Rattle.tcl_text.proofs.Items.{item_on, none_on, no_item, split_first, one_item, two_items, three_items, four_items}
 use Rattle.std.proofs.lemmas.Bool.Decides.{nat_tests}
@@ -159,7 +176,13 @@ use Rattle.tcl_run.proofs.Proceeding.{does_proceeds, stopped, stopped_by}
 use Rattle.tcl_language.specs.Definitions as definitions
 use Rattle.tcl_interpreter.specs.declared.builtin.Builtin.{Builtin}
 use Rattle.tcl_words_at_hand.proofs.Plainly.{acts_proceeds, sum_in, unchanged_runs}
-use Rattle.tcl_words_at_hand.specs.Sums.{CallsNamed}
+use Rattle.tcl_words_at_hand.specs.Sums.{CallsAtHand, CallsBuiltin, CallsNamed}
+use Rattle.std.proofs.Common.{Bool}
+use Rattle.tcl_parser.specs.Reading.{read_script}
+use Rattle.tcl_words_at_hand.specs.Hands.{EndsAs, IsCall, IsNamed}
+use Rattle.tcl_words_at_hand.proofs.Calling as Calls
+use Rattle.tcl_words_at_hand.proofs.Own.{charged_own, named_own}
+use Rattle.tcl_words_at_hand.proofs.Plainly.{there_at}
 use Rattle.tcl_tree.specs.declared.tree.Tree.{Tree as Table}
 use Rattle.tcl_run.specs.Runs.{IsRunning}
 use Rattle.tcl_run.specs.Ends.{OnCompletion}
@@ -246,13 +269,138 @@ words::call_literals-returns-clause-runs g t c =
 pub words::call_literals-returns-in-Some-clause-runs : goal.words::call_literals-returns-in-Some-clause-runs
 words::call_literals-returns-in-Some-clause-runs g t c =
     let more = take (length c.args.words.now - 1) (drop 1 c.args.words.now) in
-    IfRan-more c.call_plain_command.result
-    (CallsNamed (ways g.O.Outside.goes g.O.Outside.loses) c.args.tree.now c.args.outside.now c.args.place c.in-Some.builtin more c.call_plain_command.new.tree c.call_plain_command.new.outside)
-    (EndsFrom (ways g.O.Outside.goes g.O.Outside.loses) c.args.tree.now c.args.outside.now c.args.place (λ style. words (map literal_word c.args.words.now) []) c.call_plain_command.new.tree c.call_plain_command.new.outside)
+    IfRan-more c.call_named.result
+    (CallsNamed (ways g.O.Outside.goes g.O.Outside.loses) c.args.tree.now c.args.outside.now c.args.place c.in-Some.command c.word-item.result more c.call_named.new.tree c.call_named.new.outside)
+    (EndsFrom (ways g.O.Outside.goes g.O.Outside.loses) c.args.tree.now c.args.outside.now c.args.place (λ style. words (map literal_word c.args.words.now) []) c.call_named.new.tree c.call_named.new.outside)
     (λ e h q style at. let n = stands (tree_of c.args.tree.now q) (tree_there c.args.tree.now q _ at.names) in
     Steps.lends style c.args.words.now [] c.requires.within
     (at_prog (ap (words []) (split_first c.args.words.now c.word-item.result c.in-len1-up.len_at_least c.word-item.is))
-    (h q style n.0 at n.1 c.word-item.result (c.in-Some.ensures.named q n.0 at.names n.1)))) c.call_plain_command.ensures.runs
+    (h q style n.0 at n.1 (c.in-Some.ensures q n.0 at.names n.1)))) c.call_named.ensures.runs
+
+-- calls whose words are at hand
+
+pub at_hand::call_named-returns-in-Some-clause-runs : goal.at_hand::call_named-returns-in-Some-clause-runs
+at_hand::call_named-returns-in-Some-clause-runs g t c =
+    IfRan-more c.call_plain_command.result
+    (CallsBuiltin (ways g.O.Outside.goes g.O.Outside.loses) c.args.tree.now c.args.outside.now c.args.place c.in-Some.builtin c.args.args.now c.call_plain_command.new.tree c.call_plain_command.new.outside)
+    (CallsNamed (ways g.O.Outside.goes g.O.Outside.loses) c.args.tree.now c.args.outside.now c.args.place c.args.command.now c.args.word.now c.args.args.now c.call_plain_command.new.tree c.call_plain_command.new.outside)
+    (λ e h q style n at there named. h c.args.word.now q style n at there (subst (λ (x : Command). IsNamed n c.args.word.now x) c.in-Some.ensures.is named)) c.call_plain_command.ensures.runs
+
+pub at_hand::call_named-returns-in_err-charge-clause-runs : goal.at_hand::call_named-returns-in_err-charge-clause-runs
+at_hand::call_named-returns-in_err-charge-clause-runs g t c =
+    let p = err_from_is_err_and c.from_residual.result c.from_residual.ensures.1 in
+    says_err c.from_residual.result c.in_err-charge.field-0.0 p.0 _ _ _ p.1 p.2 c.in_err-charge.ensures.refused
+    (λ e h q style n at there named. Steps.charged_stops style (c.args.word.now ∷ c.args.args.now) (omega arith) (h q at.names))
+
+pub at_hand::call_named-returns-in_err-charge-clause-here : goal.at_hand::call_named-returns-in_err-charge-clause-here
+at_hand::call_named-returns-in_err-charge-clause-here g t c = on_completion c.from_residual.result (IsHere c.args.tree.now c.charge.new.tree c.args.place) (level_here c.args.tree.now c.charge.new.tree c.args.place c.charge.ensures.level)
+
+pub at_hand::call_named-returns-in_err-charge-clause-keeps : goal.at_hand::call_named-returns-in_err-charge-clause-keeps
+at_hand::call_named-returns-in_err-charge-clause-keeps g t c = charged_keeps c.charge.ensures.level c.charge.ensures.left
+
+pub at_hand::call_named-call_command-requires : goal.at_hand::call_named-call_command-requires
+at_hand::call_named-call_command-requires g t c κs within = (search rules, (search rules, still_running c.args.tree.now c.charge.new.tree c.args.place (level_here c.args.tree.now c.charge.new.tree c.args.place c.charge.ensures.level) c.requires))
+
+pub at_hand::call_named-returns-clause-runs : goal.at_hand::call_named-returns-clause-runs
+at_hand::call_named-returns-clause-runs g t c =
+    let word = c.args.word.now in
+    let args = c.args.args.now in
+    IfRan-more c.call_command.result
+    (EndsFrom (ways g.O.Outside.goes g.O.Outside.loses) c.charge.new.tree c.charge.new.outside c.args.place (λ style. dispatch style word args invalid_command (Some c.args.command.now)) c.call_command.new.tree c.call_command.new.outside)
+    (CallsNamed (ways g.O.Outside.goes g.O.Outside.loses) c.args.tree.now c.args.outside.now c.args.place c.args.command.now word args c.call_command.new.tree c.call_command.new.outside)
+    (λ e h q style n at there named.
+    let counts = c.in_ok-charge.ensures.counted q at.names in
+    let m = charged_own (tree_of c.args.tree.now) (tree_of c.charge.new.tree) q q n counts.counted there in
+    Steps.charged_calls style (word ∷ args) (omega arith) counts
+    (call_found style word args c.args.command.now m.1 (named_own n m.0 word c.args.command.now m.2 named)
+    (h q style (still_at c.args.tree.now c.charge.new.tree c.args.place q style (level_here c.args.tree.now c.charge.new.tree c.args.place c.charge.ensures.level) at))))
+    c.call_command.ensures.runs
+
+pub at_hand::call_named-returns-clause-here : goal.at_hand::call_named-returns-clause-here
+at_hand::call_named-returns-clause-here g t c = here_then c.call_command.result c.args.tree.now c.charge.new.tree c.call_command.new.tree c.args.place (level_here c.args.tree.now c.charge.new.tree c.args.place c.charge.ensures.level) c.call_command.ensures.here
+
+pub at_hand::call_named-returns-clause-keeps : goal.at_hand::call_named-returns-clause-keeps
+at_hand::call_named-returns-clause-keeps g t c = keeps-trans (charged_keeps c.charge.ensures.level c.charge.ensures.left) c.call_command.ensures.keeps
+
+pub at_hand::call_on_hand-returns-in_err-count_sum-clause-runs : goal.at_hand::call_on_hand-returns-in_err-count_sum-clause-runs
+at_hand::call_on_hand-returns-in_err-count_sum-clause-runs g t c =
+    let p = err_from_is_err_and c.from_residual.result c.from_residual.ensures.1 in
+    ran_err c.from_residual.result c.in_err-count_sum.field-0.0 p.0 _ _ _ p.1 p.2 c.in_err-count_sum.ensures.breaks
+    (λ e h q style n at there named ws call.
+    let k = subst (λ (b : Bool). IsCall style n ws c.args.word.now b c.args.args.now) c.if-sums.true call in
+    Calls.sum_ends style ws c.args.word.now c.args.args.now e there k h.0 (h.1 q style n (there_at c.args.tree.now c.args.place q style at) there (read_script k.ends.2) k.text k.ends.4))
+
+pub at_hand::call_on_hand-returns-in_err-count_sum-clause-here : goal.at_hand::call_on_hand-returns-in_err-count_sum-clause-here
+at_hand::call_on_hand-returns-in_err-count_sum-clause-here g t c = on_completion c.from_residual.result (IsHere c.args.tree.now c.count_sum.new.tree c.args.place) c.count_sum.ensures.here
+
+pub at_hand::call_on_hand-call_named-requires : goal.at_hand::call_on_hand-call_named-requires
+at_hand::call_on_hand-call_named-requires g t c κs within = (search rules, (search rules, still_running c.args.tree.now c.count_sum.new.tree c.args.place c.count_sum.ensures.here c.requires))
+
+pub at_hand::call_on_hand-returns-then-sums-clause-runs : goal.at_hand::call_on_hand-returns-then-sums-clause-runs
+at_hand::call_on_hand-returns-then-sums-clause-runs g t c =
+    IfRan-more c.call_named.result
+    (CallsNamed (ways g.O.Outside.goes g.O.Outside.loses) c.count_sum.new.tree c.count_sum.new.outside c.args.place c.args.command.now c.args.word.now c.args.args.now c.call_named.new.tree c.call_named.new.outside)
+    (CallsAtHand (ways g.O.Outside.goes g.O.Outside.loses) c.args.tree.now c.args.outside.now c.args.place c.args.command.now c.args.word.now c.args.sums c.args.args.now c.call_named.new.tree c.call_named.new.outside)
+    (λ e h q style n at there named ws call.
+    let k = subst (λ (b : Bool). IsCall style n ws c.args.word.now b c.args.args.now) c.if-sums.true call in
+    let m = c.in_ok-count_sum.ensures.own q n at.names there in
+    Calls.sum_goes style ws c.args.word.now c.args.args.now there k (c.in_ok-count_sum.ensures.sums q style n (there_at c.args.tree.now c.args.place q style at) there (read_script k.ends.2) k.text k.ends.4)
+    (h q style m.0 (still_at c.args.tree.now c.count_sum.new.tree c.args.place q style c.count_sum.ensures.here at) m.1 (named_own n m.0 c.args.word.now c.args.command.now m.2 named)))
+    c.call_named.ensures.runs
+
+pub at_hand::call_on_hand-returns-then-sums-clause-here : goal.at_hand::call_on_hand-returns-then-sums-clause-here
+at_hand::call_on_hand-returns-then-sums-clause-here g t c = here_then c.call_named.result c.args.tree.now c.count_sum.new.tree c.call_named.new.tree c.args.place c.count_sum.ensures.here c.call_named.ensures.here
+
+pub at_hand::call_on_hand-returns-then-sums-clause-keeps : goal.at_hand::call_on_hand-returns-then-sums-clause-keeps
+at_hand::call_on_hand-returns-then-sums-clause-keeps g t c = keeps-trans c.count_sum.ensures.keeps c.call_named.ensures.keeps
+
+pub at_hand::call_on_hand-returns-clause-runs : goal.at_hand::call_on_hand-returns-clause-runs
+at_hand::call_on_hand-returns-clause-runs g t c =
+    IfRan-more c.call_named-2.result
+    (CallsNamed (ways g.O.Outside.goes g.O.Outside.loses) c.args.tree.now c.args.outside.now c.args.place c.args.command.now c.args.word.now c.args.args.now c.call_named-2.new.tree c.call_named-2.new.outside)
+    (CallsAtHand (ways g.O.Outside.goes g.O.Outside.loses) c.args.tree.now c.args.outside.now c.args.place c.args.command.now c.args.word.now c.args.sums c.args.args.now c.call_named-2.new.tree c.call_named-2.new.outside)
+    (λ e h q style n at there named ws call.
+    let k = subst (λ (b : Bool). IsCall style n ws c.args.word.now b c.args.args.now) c.if-sums.false call in
+    Calls.plain_goes style ws c.args.word.now c.args.args.now there k (h q style n at there named))
+    c.call_named-2.ensures.runs
+
+pub at_hand::call_of_one-returns-clause-runs : goal.at_hand::call_of_one-returns-clause-runs
+at_hand::call_of_one-returns-clause-runs g t c =
+    IfRan-more c.call_on_hand.result
+    (CallsAtHand (ways g.O.Outside.goes g.O.Outside.loses) c.args.tree.now c.args.outside.now c.args.place c.in_ok-command.command c.in-Literal.name c.in_ok-value.sums (c.in_ok-value.value ∷ []) c.call_on_hand.new.tree c.call_on_hand.new.outside)
+    (EndsFrom (ways g.O.Outside.goes g.O.Outside.loses) c.args.tree.now c.args.outside.now c.args.place (λ style. words (seen_word c.args.word.now ∷ seen_word c.args.last.now ∷ []) []) c.call_on_hand.new.tree c.call_on_hand.new.outside)
+    (λ e h q style at.
+    let n = stands (tree_of c.args.tree.now q) (tree_there c.args.tree.now q _ at.names) in
+    h q style n.0 at n.1 (c.in_ok-command.ensures q n.0 at.names n.1) (seen_word c.args.word.now ∷ seen_word c.args.last.now ∷ []) (record {
+      front = seen_word c.args.word.now ∷ [];
+      last = seen_word c.args.last.now;
+      before = c.in-Literal.name ∷ [];
+      text = c.in_ok-value.value;
+      words_are = refl;
+      args_are = refl;
+      stand = (Calls.literal_stands n.0.own.chain.frames (seen_word c.args.word.now) c.in-Literal.name (ap seen_word c.in-Literal.is) (Steps.within_fits c.in-Literal.name c.text_len-within.ensures.within), tt);
+      ends = subst (λ (s : Integers). EndsAs s n.0 (seen_word c.args.last.now) c.in_ok-value.sums c.in_ok-value.value) at.style_is (c.in_ok-value.ensures q n.0 at.names n.1);
+    }))
+    c.call_on_hand.ensures.runs
+
+pub at_hand::call_of_two-returns-clause-runs : goal.at_hand::call_of_two-returns-clause-runs
+at_hand::call_of_two-returns-clause-runs g t c =
+    IfRan-more c.call_on_hand.result
+    (CallsAtHand (ways g.O.Outside.goes g.O.Outside.loses) c.args.tree.now c.args.outside.now c.args.place c.in_ok-command.command c.in-Literal.name c.in_ok-end.sums (c.in_ok-value.value ∷ c.in_ok-end.end ∷ []) c.call_on_hand.new.tree c.call_on_hand.new.outside)
+    (EndsFrom (ways g.O.Outside.goes g.O.Outside.loses) c.args.tree.now c.args.outside.now c.args.place (λ style. words (seen_word c.args.word.now ∷ seen_word c.args.first.now ∷ seen_word c.args.last.now ∷ []) []) c.call_on_hand.new.tree c.call_on_hand.new.outside)
+    (λ e h q style at.
+    let n = stands (tree_of c.args.tree.now q) (tree_there c.args.tree.now q _ at.names) in
+    h q style n.0 at n.1 (c.in_ok-command.ensures q n.0 at.names n.1) (seen_word c.args.word.now ∷ seen_word c.args.first.now ∷ seen_word c.args.last.now ∷ []) (record {
+      front = seen_word c.args.word.now ∷ seen_word c.args.first.now ∷ [];
+      last = seen_word c.args.last.now;
+      before = c.in-Literal.name ∷ c.in_ok-value.value ∷ [];
+      text = c.in_ok-end.end;
+      words_are = refl;
+      args_are = refl;
+      stand = (Calls.literal_stands n.0.own.chain.frames (seen_word c.args.word.now) c.in-Literal.name (ap seen_word c.in-Literal.is) (Steps.within_fits c.in-Literal.name c.text_len-within.ensures.within), (c.in_ok-value.ensures q n.0 at.names n.1, tt));
+      ends = subst (λ (s : Integers). EndsAs s n.0 (seen_word c.args.last.now) c.in_ok-end.sums c.in_ok-end.end) at.style_is (c.in_ok-end.ensures q n.0 at.names n.1);
+    }))
+    c.call_on_hand.ensures.runs
 
 -- words in general
 

@@ -1,5 +1,4 @@
-use Rattle.std.proofs.Common.{◌≡◌, Bool, ap, subst, sym, ◌∙◌}
-use Rattle.tcl_language.specs.Instructions.{fits}
+use Rattle.std.proofs.Common.{◌≡◌, ap, subst, ◌∙◌}
 use Rattle.tcl_parser.specs.Words.{Reading, WordRead}
 use Rattle.tcl_words_at_hand.specs.Hands.{IsSum}
 use Rattle.tcl_words_at_hand.proofs.hands.last_at_hand.Goals as goal

@@ -1,17 +1,12 @@
-use Rattle.std.proofs.Common.{◌≡◌, Some, None, sym, subst, ◌∙◌}
+use Rattle.std.proofs.Common.{◌≡◌, Some, sym, subst, ◌∙◌}
 use Rattle.tcl_core.specs.Endings.{Reply}
-use Rattle.tcl_core.specs.Endings.Reply.{Completed}
-use Rattle.tcl_core.specs.Paths.{Path}
-use Rattle.tcl_core.specs.Trees.{Node}
-use Rattle.tcl_parser.specs.Words.{Reading}
 use Rattle.tcl_run.specs.Ends.{Stays, too_deep_at}
-use Rattle.tcl_run.specs.Runs.{IsHere, RefusesStep, ways}
+use Rattle.tcl_run.specs.Runs.{ways}
 use Rattle.tcl_run.proofs.Endings.{breaks}
 use Rattle.tcl_run.proofs.Keeping.{level_keeps}
 use Rattle.tcl_run.proofs.Proceeding.{stopped}
 use Rattle.tcl_run.proofs.Steady.{level_here, level_steady, nested_here, nested_holds, nested_innermost, nested_steady, same_level}
-use Rattle.tcl_tree.specs.Own.{Own}
-use Rattle.tcl_tree.specs.TreeOf.{tree_of, Names}
+use Rattle.tcl_tree.specs.TreeOf.{tree_of}
 use Rattle.tcl_words_at_hand.proofs.Own.{charged_own, nested_own, then_own, unnested_own}
 use Rattle.tcl_words_at_hand.proofs.Steps.{read_refused}
 use Rattle.tcl_words_at_hand.proofs.Summing.{deep_stays, ok_more, refused_stays, says_breaks, sum_counts, sum_uncounted}
