@@ -129,7 +129,39 @@ fn call_of_two<O: Outside>(
     Some(call_on_hand(tree, alloc, outside, place, &command, name, sums, &args))
 }
 
-/// Calls the command of two or three words, where they are at hand: a literal names it, and the
+/// Calls the command of a literal and three words, where those are at hand.
+#[cycle(eval)]
+fn call_of_three<O: Outside>(
+    tree: &mut Tree,
+    alloc: Global,
+    outside: &mut O,
+    place: Place,
+    word: &PreparedWord,
+    first: &PreparedWord,
+    second: &PreparedWord,
+    last: &PreparedWord,
+) -> Option<Result<Value, Interruption>>
+    requires { IsRunning tree.old place }
+    ensures runs { IfSome result (λ ended. ProceedsIn (ways O.goes O.loses) tree.old outside.old
+        place (λ style. scripts.words (seen_word word.now ∷ seen_word first.now ∷ seen_word
+        second.now ∷ seen_word last.now ∷ []) []) tree.new outside.new ended) }
+    ensures here { IfSome result (λ ended. OnCompletion ended (IsHere tree.old tree.new place)) }
+    ensures keeps { Keeps O.entries_left tree.old tree.new outside.old outside.new }
+    ensures unchanged { IfNone result ((tree.new ≡ tree.old) × (outside.new ≡ outside.old)) }
+{
+    let PreparedWord::Literal(name) = word else {
+        return None;
+    };
+    let _within = name.text_len();
+    let command = command_named(tree, alloc, place, name)?;
+    let value = word_at_hand(tree, place, first)?;
+    let other = word_at_hand(tree, place, second)?;
+    let (end, sums) = last_at_hand(tree, alloc, place, last)?;
+    let args = [value, other, end];
+    Some(call_on_hand(tree, alloc, outside, place, &command, name, sums, &args))
+}
+
+/// Calls the command of two to four words, where they are at hand: a literal names it, and the
 /// others are literals or variables of the current frame, or the last one is a sum. It is looked up
 /// before it is counted, once. Where it isn't found so, nothing has happened.
 ///
@@ -154,6 +186,9 @@ pub(crate) fn call_at_hand<O: Outside>(
     match words {
         [word, last] => call_of_one(tree, alloc, outside, place, word, last),
         [word, first, last] => call_of_two(tree, alloc, outside, place, word, first, last),
+        [word, first, second, last] => {
+            call_of_three(tree, alloc, outside, place, word, first, second, last)
+        }
         _ => None,
     }
 }

@@ -402,6 +402,25 @@ at_hand::call_of_two-returns-clause-runs g t c =
     }))
     c.call_on_hand.ensures.runs
 
+pub at_hand::call_of_three-returns-clause-runs : goal.at_hand::call_of_three-returns-clause-runs
+at_hand::call_of_three-returns-clause-runs g t c =
+    IfRan-more c.call_on_hand.result
+    (CallsAtHand (ways g.O.Outside.goes g.O.Outside.loses) c.args.tree.now c.args.outside.now c.args.place c.in_ok-command.command c.in-Literal.name c.in_ok-end.sums (c.in_ok-value.value ∷ c.in_ok-other.other ∷ c.in_ok-end.end ∷ []) c.call_on_hand.new.tree c.call_on_hand.new.outside)
+    (EndsFrom (ways g.O.Outside.goes g.O.Outside.loses) c.args.tree.now c.args.outside.now c.args.place (λ style. words (seen_word c.args.word.now ∷ seen_word c.args.first.now ∷ seen_word c.args.second.now ∷ seen_word c.args.last.now ∷ []) []) c.call_on_hand.new.tree c.call_on_hand.new.outside)
+    (λ e h q style at.
+    let n = stands (tree_of c.args.tree.now q) (tree_there c.args.tree.now q _ at.names) in
+    h q style n.0 at n.1 (c.in_ok-command.ensures q n.0 at.names n.1) (seen_word c.args.word.now ∷ seen_word c.args.first.now ∷ seen_word c.args.second.now ∷ seen_word c.args.last.now ∷ []) (record {
+      front = seen_word c.args.word.now ∷ seen_word c.args.first.now ∷ seen_word c.args.second.now ∷ [];
+      last = seen_word c.args.last.now;
+      before = c.in-Literal.name ∷ c.in_ok-value.value ∷ c.in_ok-other.other ∷ [];
+      text = c.in_ok-end.end;
+      words_are = refl;
+      args_are = refl;
+      stand = (Calls.literal_stands n.0.own.chain.frames (seen_word c.args.word.now) c.in-Literal.name (ap seen_word c.in-Literal.is) (Steps.within_fits c.in-Literal.name c.text_len-within.ensures.within), (c.in_ok-value.ensures q n.0 at.names n.1, (c.in_ok-other.ensures q n.0 at.names n.1, tt)));
+      ends = subst (λ (s : Integers). EndsAs s n.0 (seen_word c.args.last.now) c.in_ok-end.sums c.in_ok-end.end) at.style_is (c.in_ok-end.ensures q n.0 at.names n.1);
+    }))
+    c.call_on_hand.ensures.runs
+
 -- words in general
 
 pub words::call_words-call_general-requires : goal.words::call_words-call_general-requires
