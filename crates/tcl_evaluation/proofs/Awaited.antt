@@ -43,24 +43,7 @@ use Rattle.tcl_tree.specs.TreeOf.{tree_of, marks_of, Names}
 use Rattle.tcl_tree.specs.declared.tree.Tree.{Tree as Table}
 use Rattle.tcl_tree.specs.declared.tree.Place.{Place as TablePlace}
 use Rattle.tcl_evaluation.specs.View.{Leads}
-use Rattle.tcl_evaluation.specs.Waiting.{
-  AnswersBy,
-  CallsOut,
-  EndsBefore,
-  EndsEntry,
-  EndsWait,
-  ExitOf,
-  HandsIn,
-  HearsSo,
-  IsNoCompletion,
-  MissesEntry,
-  MissesSo,
-  WaitsOn,
-  Wherever,
-  depth_there,
-  told_next,
-  waiting,
-}
+use Rattle.tcl_evaluation.specs.Waiting.{AnswersBy, CallsOut, EndsBefore, EndsEntry, EndsWait, ExitOf, HandsIn, HearsSo, IsNoCompletion, MissesEntry, MissesSo, WaitsOn, Wherever, depth_there, told_next, waiting}
 use Rattle.tcl_evaluation.proofs.Targets.{came}
 
 -- ## How an entry ended

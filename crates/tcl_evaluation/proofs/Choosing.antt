@@ -1,23 +1,5 @@
 -- What `switch` and `try` come to.
-use Rattle.std.proofs.Common.{
-  ◌≡◌,
-  ◌⊎◌,
-  pos,
-  Bool,
-  true,
-  false,
-  List,
-  [],
-  ◌∷◌,
-  Option,
-  Some,
-  None,
-  refl,
-  sym,
-  ◌∙◌,
-  ap,
-  subst,
-}
+use Rattle.std.proofs.Common.{◌≡◌, ◌⊎◌, pos, Bool, true, false, List, [], ◌∷◌, Option, Some, None, refl, sym, ◌∙◌, ap, subst}
 use Rattle.std.specs.Prelude.{Result, Ok, Err}
 use Rattle.tcl_core.specs.Endings.{Completion, Reply}
 use Rattle.tcl_core.specs.Endings.Reply.{Completed}
@@ -26,15 +8,7 @@ use Rattle.tcl_core.specs.Programs.Prog.{done}
 use Rattle.tcl_core.specs.Runs.{Ending}
 use Rattle.tcl_core.specs.Trees.{Tree}
 use Rattle.tcl_language.specs.Control.{options_text}
-use Rattle.tcl_language.specs.Instructions.{
-  Handler,
-  Program,
-  either,
-  fits,
-  grown,
-  or_fails,
-  too_long,
-}
+use Rattle.tcl_language.specs.Instructions.{Handler, Program, either, fits, grown, or_fails, too_long}
 use Rattle.tcl_language.specs.Instructions.Instr.{Script, Handled}
 use Rattle.tcl_language.specs.Scripts.{script}
 use Rattle.tcl_language.specs.Trying.{Tried, finishes, handled, keeps, tried_of, try_script}
@@ -43,18 +17,7 @@ use Rattle.tcl_language_laws.specs.Language.{language}
 use Rattle.tcl_run.specs.Ends.{IsFailure, Stays, itself}
 use Rattle.tcl_run.specs.Plain.{Does}
 use Rattle.tcl_run.specs.Runs.{Proceeds, Ways}
-use Rattle.tcl_run.proofs.Proceeding.{
-  IsQuitting,
-  at_prog,
-  at_start,
-  goes_done,
-  goes_on,
-  grows,
-  passed,
-  read_fails,
-  reads_on,
-  stopped,
-}
+use Rattle.tcl_run.proofs.Proceeding.{IsQuitting, at_prog, at_start, goes_done, goes_on, grows, passed, read_fails, reads_on, stopped}
 use Rattle.tcl_text.specs.Lists.{list_of}
 use Rattle.tcl_text.specs.Writing.{fault_message}
 use Rattle.tcl_text.specs.declared.integer.Integers.{Integers}

@@ -1,5 +1,5 @@
 //! Calls of commands whose words are at hand: they aren't evaluated one by one.
-ghost use Rattle.std.specs.Prelude.{◌≡◌, ◌∷◌, [], map, IfSome, IfNone};
+ghost use Rattle.std.specs.Prelude.{◌≡◌, [], map, IfSome, IfNone};
 ghost use Rattle.tcl_language.specs.Scripts as scripts;
 ghost use Rattle.tcl_prepared.specs.Views.{seen_word};
 ghost use Rattle.tcl_run.specs.Ends.{IfRan, OnCompletion};
@@ -16,7 +16,7 @@ use tcl_tree::command::Command;
 use tcl_tree::tree::{Place, Tree};
 use tcl_value::value::Value;
 use tcl_words_at_hand::calls::call_plain_command;
-use tcl_words_at_hand::hands::{command_named, last_at_hand, plain_builtin, word_at_hand};
+use tcl_words_at_hand::hands::{command_named, plain_builtin, words_at_hand};
 use tcl_words_at_hand::sums::count_sum;
 
 /// Makes a step and calls a command that a word names.
@@ -46,7 +46,7 @@ pub(crate) fn call_named<O: Outside>(
     call_command(tree, alloc, outside, place, command, word, args)
 }
 
-/// The same, where the words are at hand, the last of which may be a sum that isn't counted yet.
+/// The same, where the words are at hand, one of which may be a sum that isn't counted yet.
 #[cycle(eval)]
 fn call_on_hand<O: Outside>(
     tree: &mut Tree,
@@ -71,99 +71,9 @@ fn call_on_hand<O: Outside>(
     call_named(tree, alloc, outside, place, command, word, args)
 }
 
-/// Calls the command of a literal and one word, where that is at hand.
-#[cycle(eval)]
-fn call_of_one<O: Outside>(
-    tree: &mut Tree,
-    alloc: Global,
-    outside: &mut O,
-    place: Place,
-    word: &PreparedWord,
-    last: &PreparedWord,
-) -> Option<Result<Value, Interruption>>
-    requires { IsRunning tree.old place }
-    ensures runs { IfSome result (λ ended. ProceedsIn (ways O.goes O.loses) tree.old outside.old
-        place (λ style. scripts.words (seen_word word.now ∷ seen_word last.now ∷ []) []) tree.new
-        outside.new ended) }
-    ensures here { IfSome result (λ ended. OnCompletion ended (IsHere tree.old tree.new place)) }
-    ensures keeps { Keeps O.entries_left tree.old tree.new outside.old outside.new }
-    ensures unchanged { IfNone result ((tree.new ≡ tree.old) × (outside.new ≡ outside.old)) }
-{
-    let PreparedWord::Literal(name) = word else {
-        return None;
-    };
-    let _within = name.text_len();
-    let command = command_named(tree, alloc, place, name)?;
-    let (value, sums) = last_at_hand(tree, alloc, place, last)?;
-    let args = [value];
-    Some(call_on_hand(tree, alloc, outside, place, &command, name, sums, &args))
-}
-
-/// Calls the command of a literal and two words, where those are at hand.
-#[cycle(eval)]
-fn call_of_two<O: Outside>(
-    tree: &mut Tree,
-    alloc: Global,
-    outside: &mut O,
-    place: Place,
-    word: &PreparedWord,
-    first: &PreparedWord,
-    last: &PreparedWord,
-) -> Option<Result<Value, Interruption>>
-    requires { IsRunning tree.old place }
-    ensures runs { IfSome result (λ ended. ProceedsIn (ways O.goes O.loses) tree.old outside.old
-        place (λ style. scripts.words (seen_word word.now ∷ seen_word first.now ∷ seen_word last.now
-        ∷ []) []) tree.new outside.new ended) }
-    ensures here { IfSome result (λ ended. OnCompletion ended (IsHere tree.old tree.new place)) }
-    ensures keeps { Keeps O.entries_left tree.old tree.new outside.old outside.new }
-    ensures unchanged { IfNone result ((tree.new ≡ tree.old) × (outside.new ≡ outside.old)) }
-{
-    let PreparedWord::Literal(name) = word else {
-        return None;
-    };
-    let _within = name.text_len();
-    let command = command_named(tree, alloc, place, name)?;
-    let value = word_at_hand(tree, place, first)?;
-    let (end, sums) = last_at_hand(tree, alloc, place, last)?;
-    let args = [value, end];
-    Some(call_on_hand(tree, alloc, outside, place, &command, name, sums, &args))
-}
-
-/// Calls the command of a literal and three words, where those are at hand.
-#[cycle(eval)]
-fn call_of_three<O: Outside>(
-    tree: &mut Tree,
-    alloc: Global,
-    outside: &mut O,
-    place: Place,
-    word: &PreparedWord,
-    first: &PreparedWord,
-    second: &PreparedWord,
-    last: &PreparedWord,
-) -> Option<Result<Value, Interruption>>
-    requires { IsRunning tree.old place }
-    ensures runs { IfSome result (λ ended. ProceedsIn (ways O.goes O.loses) tree.old outside.old
-        place (λ style. scripts.words (seen_word word.now ∷ seen_word first.now ∷ seen_word
-        second.now ∷ seen_word last.now ∷ []) []) tree.new outside.new ended) }
-    ensures here { IfSome result (λ ended. OnCompletion ended (IsHere tree.old tree.new place)) }
-    ensures keeps { Keeps O.entries_left tree.old tree.new outside.old outside.new }
-    ensures unchanged { IfNone result ((tree.new ≡ tree.old) × (outside.new ≡ outside.old)) }
-{
-    let PreparedWord::Literal(name) = word else {
-        return None;
-    };
-    let _within = name.text_len();
-    let command = command_named(tree, alloc, place, name)?;
-    let value = word_at_hand(tree, place, first)?;
-    let other = word_at_hand(tree, place, second)?;
-    let (end, sums) = last_at_hand(tree, alloc, place, last)?;
-    let args = [value, other, end];
-    Some(call_on_hand(tree, alloc, outside, place, &command, name, sums, &args))
-}
-
-/// Calls the command of two to four words, where they are at hand: a literal names it, and the
-/// others are literals or variables of the current frame, or the last one is a sum. It is looked up
-/// before it is counted, once. Where it isn't found so, nothing has happened.
+/// Calls a command whose words are at hand: a literal names it, and the others are literals or
+/// variables of the current frame, or one is a sum. It is looked up once, before it is counted.
+/// Where it isn't found so, nothing has happened.
 ///
 /// # Errors
 /// The stop 308, and the error 308 of a sum; those of the command; want of memory.
@@ -183,12 +93,15 @@ pub(crate) fn call_at_hand<O: Outside>(
     ensures keeps { Keeps O.entries_left tree.old tree.new outside.old outside.new }
     ensures unchanged { IfNone result ((tree.new ≡ tree.old) × (outside.new ≡ outside.old)) }
 {
-    match words {
-        [word, last] => call_of_one(tree, alloc, outside, place, word, last),
-        [word, first, last] => call_of_two(tree, alloc, outside, place, word, first, last),
-        [word, first, second, last] => {
-            call_of_three(tree, alloc, outside, place, word, first, second, last)
-        }
-        _ => None,
-    }
+    let [first, rest @ ..] = words else {
+        return None;
+    };
+    let PreparedWord::Literal(name) = first else {
+        return None;
+    };
+    let _within = name.text_len();
+    let command = command_named(tree, alloc, place, name)?;
+    let hand = words_at_hand(tree, alloc, place, rest)?;
+    let args = hand.values.as_slice();
+    Some(call_on_hand(tree, alloc, outside, place, &command, name, hand.sums, args))
 }

@@ -1,23 +1,5 @@
 -- What calls come to whose words are at hand.
-use Rattle.std.proofs.Common.{
-  ◌≡◌,
-  ◌⊎◌,
-  inl,
-  inr,
-  ℕ,
-  true,
-  false,
-  List,
-  [],
-  ◌∷◌,
-  ◌++◌,
-  Some,
-  refl,
-  sym,
-  ap,
-  append-nil,
-  append_assoc,
-}
+use Rattle.std.proofs.Common.{◌≡◌, ◌⊎◌, inl, inr, ℕ, true, false, List, [], ◌∷◌, ◌++◌, Some, refl, sym, ap, append-nil, append_assoc}
 use Rattle.std.specs.Prelude.{Ok}
 use Rattle.tcl_core.specs.Paths.{Path}
 use Rattle.tcl_core.specs.Endings.{ok}
@@ -39,7 +21,7 @@ use Rattle.tcl_run.specs.Runs.{Proceeds, Ways}
 use Rattle.tcl_run.proofs.Proceeding.{at_prog, completed}
 use Rattle.tcl_text.specs.declared.integer.Integers.{Integers}
 use Rattle.tcl_tree.specs.Own.{Own}
-use Rattle.tcl_words_at_hand.specs.Hands.{AllStand, IsCall, StandsFor}
+use Rattle.tcl_words_at_hand.specs.Hands.{AllEnd, AllStand, EndsAs, IsSum, IsSumWord, StandsFor, one_of}
 use Rattle.tcl_words_at_hand.specs.Scripts.{read_so}
 use Rattle.tcl_words_at_hand.proofs.Steps.{lone, script_goes, script_stays, single_goes, variable_goes, word_stays}
 
@@ -67,31 +49,72 @@ module _ {S : Type 0} {ways : Ways S} (style : Integers) where
   all_stand (w ∷ ws) rest before (x ∷ ts) there h t =
       stands_goes w (ws ++ rest) before x there h.0 (all_stand ws rest (before ++ x ∷ []) ts there h.1 (at_prog (ap (words rest) (append_assoc before (x ∷ []) ts)) t))
 
-  -- ## Calls
+  -- ## The words of a call
 
-  -- all words stand for texts
-  pub plain_goes : {T V : Tree Own} {o z : S} {p : Path} {n : Node Own} {r : Ending} (ws : List WordRead) (word : List ℕ) (args : List (List ℕ)) → T p ≡ Some n → (call : IsCall style n ws word false args) →
-      Proceeds ways (language style) T o p (words [] (word ∷ args)) V z r → Proceeds ways (language style) T o p (words ws []) V z r
-  plain_goes ws word args there call t =
-      at_prog (ap (λ (x : List WordRead). words x []) call.words_are)
-      (all_stand call.front (call.last ∷ []) [] call.before there call.stand
-      (stands_goes call.last [] call.before call.text there call.ends (at_prog (ap (words []) (sym call.args_are)) t)))
+  -- where none is a sum, all stand for texts
+  none_sums : (n : Node Own) (ws : List WordRead) (ts : List (List ℕ)) → AllEnd style n ws false ts → AllStand n.own.chain.frames ws ts
+  none_sums n [] [] h = tt
+  none_sums n [] (x ∷ ts) h = elim h [ ]
+  none_sums n (w ∷ ws) [] h = elim h [ ]
+  none_sums n (w ∷ ws) (x ∷ ts) (inl h) = (h.0, none_sums n ws ts h.1)
+  none_sums n (w ∷ ws) (x ∷ ts) (inr h) = let clash : false ≡ true = h.0 in cc
 
-  -- the last one is a sum
-  pub sum_goes : {T U V : Tree Own} {o u z : S} {p : Path} {n : Node Own} {r : Ending} (ws : List WordRead) (word : List ℕ) (args : List (List ℕ)) → T p ≡ Some n → (call : IsCall style n ws word true args) →
-      Proceeds ways (language style) T o p (read_so (read_script call.ends.2)) U u (Some (Completed (ok call.text))) → Proceeds ways (language style) U u p (words [] (word ∷ args)) V z r → Proceeds ways (language style) T o p (words ws []) V z r
-  sum_goes ws word args there call s t =
-      at_prog (ap (λ (x : List WordRead). words x []) call.words_are)
-      (all_stand call.front (call.last ∷ []) [] call.before there call.stand
-      (single_goes style call.last [] call.before (ok call.text) call.text call.ends.0 refl refl
-      (at_prog (ap (λ (ps : List Part). parts ps [] []) call.ends.3) (script_goes style call.ends.2 call.text [] [] [] (ok call.text) refl refl s call.ends.1 completed))
-      (at_prog (ap (words []) (sym call.args_are)) t)))
+  pub plain_goes : {T V : Tree Own} {o z : S} {p : Path} {n : Node Own} {r : Ending} (ws : List WordRead) (ts : List (List ℕ)) → T p ≡ Some n → AllEnd style n ws false ts →
+      Proceeds ways (language style) T o p (words [] ts) V z r → Proceeds ways (language style) T o p (words ws []) V z r
+  plain_goes {n = n} ws ts there h t = at_prog (ap (λ (x : List WordRead). words x []) (sym (append-nil ws))) (all_stand ws [] [] ts there (none_sums n ws ts h) t)
+
+  -- a sum among them is counted, which changes no own part
+  pub sum_goes : {T U V : Tree Own} {o u z : S} {p : Path} {n m : Node Own} {r : Ending} (ws : List WordRead) (before ts : List (List ℕ)) → T p ≡ Some n → AllEnd style n ws true ts →
+      ((inner text : List ℕ) → IsSum style n (read_script inner) text → Proceeds ways (language style) T o p (read_so (read_script inner)) U u (Some (Completed (ok text)))) →
+      U p ≡ Some m → m.own ≡ n.own → Proceeds ways (language style) U u p (words [] (before ++ ts)) V z r → Proceeds ways (language style) T o p (words ws before) V z r
+  sum_goes [] before [] there h s still same t = let clash : true ≡ false = h in cc
+  sum_goes [] before (x ∷ ts) there h s still same t = elim h [ ]
+  sum_goes (w ∷ ws) before [] there h s still same t = elim h [ ]
+  sum_goes (w ∷ ws) before (x ∷ ts) there (inl h) s still same t =
+      stands_goes w ws before x there h.0 (sum_goes ws (before ++ x ∷ []) ts there h.1 s still same (at_prog (ap (words []) (append_assoc before (x ∷ []) ts)) t))
+  sum_goes {n = n} {m = m} (w ∷ ws) before (x ∷ ts) there (inr h) s still same t =
+      let stand : AllStand m.own.chain.frames ws ts = subst (λ (own : Own). AllStand own.chain.frames ws ts) (sym same) h.2 in
+      single_goes style w ws before (ok x) x h.1.0 refl refl
+      (at_prog (ap (λ (ps : List Part). parts ps [] []) h.1.3) (script_goes style h.1.2 x [] [] [] (ok x) refl refl (s h.1.2 x h.1.4) h.1.1 completed))
+      (at_prog (ap (λ (y : List WordRead). words y (before ++ x ∷ [])) (sym (append-nil ws)))
+      (all_stand ws [] (before ++ x ∷ []) ts still stand (at_prog (ap (words []) (append_assoc before (x ∷ []) ts)) t)))
 
   -- and it ends the command
-  pub sum_ends : {T U : Tree Own} {o u : S} {p : Path} {n : Node Own} (ws : List WordRead) (word : List ℕ) (args : List (List ℕ)) (e : Ending) → T p ≡ Some n → (call : IsCall style n ws word true args) → Stays e →
-      Proceeds ways (language style) T o p (read_so (read_script call.ends.2)) U u e → Proceeds ways (language style) T o p (words ws []) U u e
-  sum_ends ws word args e there call stays s =
-      at_prog (ap (λ (x : List WordRead). words x []) call.words_are)
-      (all_stand call.front (call.last ∷ []) [] call.before there call.stand
-      (word_stays style call.last [] call.before e stays
-      (at_prog (ap (λ (ps : List Part). parts ps [] []) call.ends.3) (script_stays style call.ends.2 [] [] [] e stays s))))
+  pub sum_ends : {T U : Tree Own} {o u : S} {p : Path} {n : Node Own} (ws : List WordRead) (before ts : List (List ℕ)) (e : Ending) → T p ≡ Some n → AllEnd style n ws true ts → Stays e →
+      ((inner text : List ℕ) → IsSum style n (read_script inner) text → Proceeds ways (language style) T o p (read_so (read_script inner)) U u e) → Proceeds ways (language style) T o p (words ws before) U u e
+  sum_ends [] before [] e there h stays s = let clash : true ≡ false = h in cc
+  sum_ends [] before (x ∷ ts) e there h stays s = elim h [ ]
+  sum_ends (w ∷ ws) before [] e there h stays s = elim h [ ]
+  sum_ends (w ∷ ws) before (x ∷ ts) e there (inl h) stays s =
+      stands_goes w ws before x there h.0 (sum_ends ws (before ++ x ∷ []) ts e there h.1 stays s)
+  sum_ends (w ∷ ws) before (x ∷ ts) e there (inr h) stays s =
+      word_stays style w ws before e stays
+      (at_prog (ap (λ (ps : List Part). parts ps [] []) h.1.3) (script_stays style h.1.2 [] [] [] e stays (s h.1.2 x h.1.4)))
+
+-- ## One word more
+
+all_stand_more : (frames : Levels) (ws : List WordRead) (ts : List (List ℕ)) (w : WordRead) (x : List ℕ) → AllStand frames ws ts → StandsFor frames w x → AllStand frames (ws ++ w ∷ []) (ts ++ x ∷ [])
+all_stand_more frames [] [] w x h s = (s, tt)
+all_stand_more frames [] (y ∷ ts) w x h s = elim h [ ]
+all_stand_more frames (v ∷ ws) [] w x h s = elim h [ ]
+all_stand_more frames (v ∷ ws) (y ∷ ts) w x h s = (h.0, all_stand_more frames ws ts w x h.1 s)
+
+stands_more : (style : Integers) (n : Node Own) (ws : List WordRead) (ts : List (List ℕ)) (sums : Bool) (w : WordRead) (x : List ℕ) → AllEnd style n ws sums ts → StandsFor n.own.chain.frames w x → AllEnd style n (ws ++ w ∷ []) sums (ts ++ x ∷ [])
+stands_more style n [] [] sums w x h s = inl (s, h)
+stands_more style n [] (y ∷ ts) sums w x h s = elim h [ ]
+stands_more style n (v ∷ ws) [] sums w x h s = elim h [ ]
+stands_more style n (v ∷ ws) (y ∷ ts) sums w x (inl h) s = inl (h.0, stands_more style n ws ts sums w x h.1 s)
+stands_more style n (v ∷ ws) (y ∷ ts) sums w x (inr h) s = inr (h.0, h.1, all_stand_more n.own.chain.frames ws ts w x h.2 s)
+
+sum_more : (style : Integers) (n : Node Own) (ws : List WordRead) (ts : List (List ℕ)) (w : WordRead) (x : List ℕ) → AllEnd style n ws false ts → IsSumWord style n w x → AllEnd style n (ws ++ w ∷ []) true (ts ++ x ∷ [])
+sum_more style n [] [] w x h s = inr (refl, s, tt)
+sum_more style n [] (y ∷ ts) w x h s = elim h [ ]
+sum_more style n (v ∷ ws) [] w x h s = elim h [ ]
+sum_more style n (v ∷ ws) (y ∷ ts) w x (inl h) s = inl (h.0, sum_more style n ws ts w x h.1 s)
+sum_more style n (v ∷ ws) (y ∷ ts) w x (inr h) s = let clash : false ≡ true = h.0 in cc
+
+pub ends_more : (style : Integers) (n : Node Own) (ws : List WordRead) (ts : List (List ℕ)) (a b c : Bool) (w : WordRead) (x : List ℕ) → one_of a b ≡ Some c → AllEnd style n ws a ts → EndsAs style n w b x → AllEnd style n (ws ++ w ∷ []) c (ts ++ x ∷ [])
+ends_more style n ws ts true true c w x e h s = let clash : None ≡ Some c = e in cc
+ends_more style n ws ts true false c w x e h s = let same : true ≡ c = cc in subst (λ (b : Bool). AllEnd style n (ws ++ w ∷ []) b (ts ++ x ∷ [])) same (stands_more style n ws ts true w x h s)
+ends_more style n ws ts false true c w x e h s = let same : true ≡ c = cc in subst (λ (b : Bool). AllEnd style n (ws ++ w ∷ []) b (ts ++ x ∷ [])) same (sum_more style n ws ts w x h s)
+ends_more style n ws ts false false c w x e h s = let same : false ≡ c = cc in subst (λ (b : Bool). AllEnd style n (ws ++ w ∷ []) b (ts ++ x ∷ [])) same (stands_more style n ws ts false w x h s)

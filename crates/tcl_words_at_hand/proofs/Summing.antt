@@ -1,20 +1,5 @@
 -- How far sums are evaluated.
-use Rattle.std.proofs.Common.{
-  ◌≡◌,
-  ℕ,
-  zero,
-  suc,
-  List,
-  [],
-  ◌∷◌,
-  Some,
-  None,
-  refl,
-  sym,
-  ap,
-  subst,
-  arith,
-}
+use Rattle.std.proofs.Common.{◌≡◌, ℕ, zero, suc, List, [], ◌∷◌, Some, None, refl, sym, ap, subst, arith}
 use Rattle.std.specs.Prelude.{Result, Ok, Err, IfErr, OnOk}
 use Rattle.tcl_core.specs.Paths.{Path}
 use Rattle.tcl_core.specs.Endings.{Reply, ok}
@@ -45,15 +30,7 @@ use Rattle.tcl_words_at_hand.specs.Scripts.{read_so}
 use Rattle.tcl_words_at_hand.proofs.Computing.{computes_kept, expr_runs, number_at_hand}
 use Rattle.tcl_words_at_hand.proofs.Found.{call_found}
 use Rattle.tcl_words_at_hand.proofs.Own.{charged_own, named_own, nested_own, then_own}
-use Rattle.tcl_words_at_hand.proofs.Steps.{
-  charged_calls,
-  charged_stops,
-  command_goes,
-  command_stays,
-  is_over,
-  lends,
-  reads_end,
-}
+use Rattle.tcl_words_at_hand.proofs.Steps.{charged_calls, charged_stops, command_goes, command_stays, is_over, lends, reads_end}
 
 -- a level that is refused ends what wanted it
 pub deep_stays : (n : ℕ) → Stays (Some (too_deep_at n))

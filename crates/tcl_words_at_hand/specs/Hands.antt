@@ -1,6 +1,6 @@
 -- Words, expressions and commands that are at hand in an interpreter: what they come to is known
 -- without an evaluation.
-use Rattle.std.specs.Prelude.{◌≡◌, ◌⊎◌, Bool, true, false, ℤ, List, [], ◌∷◌, ◌++◌, Some, None, Ok}
+use Rattle.std.specs.Prelude.{◌≡◌, ◌⊎◌, Bool, true, false, ℤ, List, [], ◌∷◌, Option, Some, None, Ok}
 use Rattle.std.specs.Fmt.{signed_decimal}
 use Rattle.tcl_core.specs.Paths.{Text, Path}
 use Rattle.tcl_core.specs.Trees.{Node}
@@ -78,12 +78,16 @@ abbrev pub IsSumIn : Table → Place → Reading → Text → Type 0
 IsSumIn t place script text = (p : Path) (n : Node Own) → Names t place p → tree_of t p ≡ Some n →
     IsSum (marks_of t).integers n script text
 
+-- the word is a sum in brackets, which comes to the text
+abbrev pub IsSumWord : Integers → Node Own → WordRead → Text → Type 0
+IsSumWord style n word text = (word.expand ≡ false) × (fits text ≡ true) × (inner : Text) ×
+    (word.parts ≡ Script inner ∷ []) × IsSum style n (read_script inner) text
+
 -- The word isn't spread, and it stands for the text, as one that is at hand or as the result of a
 -- sum in brackets.
 abbrev pub EndsAs : Integers → Node Own → WordRead → Bool → Text → Type 0
 EndsAs style n word false text = StandsFor n.own.chain.frames word text
-EndsAs style n word true text = (word.expand ≡ false) × (fits text ≡ true) × (inner : Text) ×
-    (word.parts ≡ Script inner ∷ []) × IsSum style n (read_script inner) text
+EndsAs style n word true text = IsSumWord style n word text
 
 -- and so in the interpreter that a place names
 abbrev pub EndsIn : Table → Place → WordRead → Bool → Text → Type 0
@@ -95,17 +99,24 @@ abbrev pub KeepsOwn : Table → Table → Place → Type 0
 KeepsOwn old new place = (p : Path) (n : Node Own) → Names old place p → tree_of old p ≡ Some n →
     (m : Node Own) × (tree_of new p ≡ Some m) × (m.own ≡ n.own)
 
--- ## Calls
+-- ## The words of calls
 
--- The words are those of a call: all but the last stand for texts, and the last one ends them, be
--- it a sum or not.
-pub record IsCall (style : Integers) (n : Node Own) (words : List WordRead) (word : Text)
-    (sums : Bool) (args : List Text) : Type 0 where
-  pub front : List WordRead
-  pub last : WordRead
-  pub before : List Text
-  pub text : Text
-  pub words_are : words ≡ front ++ last ∷ []
-  pub args_are : word ∷ args ≡ before ++ text ∷ []
-  pub stand : AllStand n.own.chain.frames front before
-  pub ends : EndsAs style n last sums text
+-- Each word stands for the text at its place, but that one is a sum in brackets where it is told.
+abbrev pub AllEnd : Integers → Node Own → List WordRead → Bool → List Text → Type 0
+AllEnd style n [] sums [] = sums ≡ false
+AllEnd style n [] sums (t ∷ texts) = Prim.⊥
+AllEnd style n (w ∷ words) sums [] = Prim.⊥
+AllEnd style n (w ∷ words) sums (t ∷ texts) =
+    (StandsFor n.own.chain.frames w t × AllEnd style n words sums texts) ⊎
+    ((sums ≡ true) × IsSumWord style n w t × AllStand n.own.chain.frames words texts)
+
+-- and so in the interpreter that a place names
+abbrev pub AllEndIn : Table → Place → List WordRead → Bool → List Text → Type 0
+AllEndIn t place words sums texts = (p : Path) (n : Node Own) → Names t place p →
+    tree_of t p ≡ Some n → AllEnd (marks_of t).integers n words sums texts
+
+-- whether one of two is told, unless both are
+abbrev pub one_of : Bool → Bool → Option Bool
+one_of true true = None
+one_of true false = Some true
+one_of false other = Some other

@@ -15,7 +15,7 @@ use Rattle.tcl_tree.specs.Own.{Own}
 use Rattle.tcl_tree.specs.TreeOf.{tree_of}
 use Rattle.tcl_tree.specs.declared.tree.Place.{Place}
 use Rattle.tcl_tree.specs.declared.tree.Tree.{Tree as Table}
-use Rattle.tcl_words_at_hand.specs.Hands.{IsCall, IsNamed, IsSum}
+use Rattle.tcl_words_at_hand.specs.Hands.{AllEnd, IsNamed, IsSum}
 use Rattle.tcl_words_at_hand.specs.Scripts.{read_so}
 
 -- each sum that is at hand there is evaluated so far, to the end that its result has
@@ -38,10 +38,10 @@ abbrev pub CallsBuiltin : {S : Type 0} → Ways S → Table → S → Place → 
 CallsBuiltin ways old o place builtin args new z e =
     (word : Text) → CallsNamed ways old o place (command.Builtin builtin) word args new z e
 
--- and so does each command whose words are such a call
+-- and so does each command whose words end so
 abbrev pub CallsAtHand : {S : Type 0} → Ways S → Table → S → Place → Command → Text → Bool →
     List Text → Table → S → Ending → Type 0
 CallsAtHand ways old o place named word sums args new z e = (p : Path) (style : Integers)
     (n : Node Own) → IsAt old place p style → tree_of old p ≡ Some n → IsNamed n word named →
-    (ws : List WordRead) → IsCall style n ws word sums args →
+    (ws : List WordRead) → AllEnd style n ws sums (word ∷ args) →
     Proceeds ways (language style) (tree_of old) o p (words ws []) (tree_of new) z e

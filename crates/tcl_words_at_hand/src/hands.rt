@@ -1,12 +1,14 @@
 //! What is at hand: words, commands, and sums in brackets.
-ghost use Rattle.std.specs.Prelude.{◌≡◌, ◌∷◌, [], true, false, IfSome};
+ghost use Rattle.std.specs.Prelude.{◌≡◌, ◌∷◌, [], true, false, map, IfSome};
 ghost use Rattle.tcl_builtins.specs.Kinds.{is_plain};
 ghost use Rattle.tcl_interpreter.specs.declared.command.Command.TheVariants as variant;
 ghost use Rattle.tcl_language.specs.Instructions.{fits};
 ghost use Rattle.tcl_parser.specs.declared.script.Part.TheVariants.{Script};
 ghost use Rattle.tcl_prepared.specs.Views.{seen_word};
-ghost use Rattle.tcl_words_at_hand.specs.Hands.{Named, EndsIn, IsSumIn, StandsFor};
+ghost use Rattle.tcl_words_at_hand.specs.Hands.{AllEndIn, EndsIn, IsSumIn, Named};
+ghost use Rattle.tcl_words_at_hand.specs.Hands.{StandsFor, one_of};
 
+use smallvec::SmallVec;
 use std::alloc::Global;
 use tcl_calls::expressions::{number_at, read_expression};
 use tcl_calls::lookup::kept_name;
@@ -69,7 +71,7 @@ fn value_at_hand(frames: &Frames, word: &PreparedWord) -> Option<Value>
 
 /// What a word stands for in the interpreter, where it stands for itself or for a variable of the
 /// current frame.
-pub fn word_at_hand(tree: &Tree, place: Place, word: &PreparedWord) -> Option<Value>
+fn word_at_hand(tree: &Tree, place: Place, word: &PreparedWord) -> Option<Value>
     ensures { IfSome result (λ value. EndsIn tree.now place (seen_word word.now) false value) }
 {
     value_at_hand(frames_seen(tree, place)?, word)
@@ -125,19 +127,58 @@ fn bracket_of(word: &PreparedWord) -> Option<&Bracket>
     }
 }
 
-/// What the last word of a call stands for, and whether it is a sum in brackets, which isn't
-/// counted yet.
-pub fn last_at_hand(
+/// What a word stands for, and whether it is a sum in brackets, which isn't counted yet.
+fn end_at_hand(
     tree: &Tree,
     alloc: Global,
     place: Place,
     word: &PreparedWord,
 ) -> Option<(Value, bool)>
-    ensures { IfSome result (λ last. EndsIn tree.now place (seen_word word.now) last.1 last.0) }
+    ensures { IfSome result (λ end. EndsIn tree.now place (seen_word word.now) end.1 end.0) }
 {
     if let Some(bracket) = bracket_of(word) {
         let sum = sum_at_hand(tree, alloc, place, bracket.script())?;
         return Some((sum, true));
     }
     Some((word_at_hand(tree, place, word)?, false))
+}
+
+/// What words stand for that are at hand.
+#[derive(Drop)]
+pub struct WordsAtHand {
+    /// Their values.
+    pub values: SmallVec<Value, 4>,
+    /// Whether one of them is a sum in brackets, which isn't counted yet.
+    pub sums: bool,
+}
+
+/// Whether one of two is told, unless both are.
+fn one_of(first: bool, second: bool) -> Option<bool>
+    ensures { result ≡ one_of first second }
+{
+    if first && second {
+        None
+    } else {
+        Some(first || second)
+    }
+}
+
+/// What these words stand for, where each of them is at hand, and at most one is a sum.
+pub fn words_at_hand(
+    tree: &Tree,
+    alloc: Global,
+    place: Place,
+    words: &[PreparedWord],
+) -> Option<WordsAtHand>
+    ensures { IfSome result (λ hand. AllEndIn tree.now place (map seen_word words.now) hand.sums
+        hand.values.items) }
+{
+    let mut values = SmallVec::new(alloc);
+    let mut sums = false;
+    'words: for word in words {
+        let (value, is_sum) = end_at_hand(tree, alloc, place, word)?;
+        sums = one_of(sums, is_sum)?;
+        values.push(value).ok()?;
+    }
+    Some(WordsAtHand { values, sums })
 }

@@ -1,22 +1,4 @@
-use Rattle.std.proofs.Common.{
-  ◌≡◌,
-  ◌≤◌,
-  [],
-  ◌∷◌,
-  ◌++◌,
-  List,
-  ℕ,
-  Some,
-  length,
-  drop,
-  rules,
-  sym,
-  ap,
-  refl,
-  ◌∙◌,
-  arith,
-  subst,
-}
+use Rattle.std.proofs.Common.{◌≡◌, ◌≤◌, [], ◌∷◌, ◌++◌, List, ℕ, Some, length, drop, rules, sym, ap, refl, ◌∙◌, arith, subst}
 use Rattle.std.proofs.lemmas.Result.{err_from_is_err_and}
 use Rattle.std.specs.String.{string_bytes}
 use Rattle.tcl_core.specs.Paths.{Path}
@@ -179,7 +161,7 @@ use Rattle.tcl_words_at_hand.proofs.Plainly.{acts_proceeds, sum_in, unchanged_ru
 use Rattle.tcl_words_at_hand.specs.Sums.{CallsAtHand, CallsBuiltin, CallsNamed}
 use Rattle.std.proofs.Common.{Bool}
 use Rattle.tcl_parser.specs.Reading.{read_script}
-use Rattle.tcl_words_at_hand.specs.Hands.{EndsAs, IsCall, IsNamed}
+use Rattle.tcl_words_at_hand.specs.Hands.{AllEnd, IsNamed}
 use Rattle.tcl_words_at_hand.proofs.Calling as Calls
 use Rattle.tcl_words_at_hand.proofs.Own.{charged_own, named_own}
 use Rattle.tcl_words_at_hand.proofs.Plainly.{there_at}
@@ -327,8 +309,8 @@ at_hand::call_on_hand-returns-in_err-count_sum-clause-runs g t c =
     let p = err_from_is_err_and c.from_residual.result c.from_residual.ensures.1 in
     ran_err c.from_residual.result c.in_err-count_sum.field-0.0 p.0 _ _ _ p.1 p.2 c.in_err-count_sum.ensures.breaks
     (λ e h q style n at there named ws call.
-    let k = subst (λ (b : Bool). IsCall style n ws c.args.word.now b c.args.args.now) c.if-sums.true call in
-    Calls.sum_ends style ws c.args.word.now c.args.args.now e there k h.0 (h.1 q style n (there_at c.args.tree.now c.args.place q style at) there (read_script k.ends.2) k.text k.ends.4))
+    let k = subst (λ (b : Bool). AllEnd style n ws b (c.args.word.now ∷ c.args.args.now)) c.if-sums.true call in
+    Calls.sum_ends style ws [] (c.args.word.now ∷ c.args.args.now) e there k h.0 (λ inner text is. h.1 q style n (there_at c.args.tree.now c.args.place q style at) there (read_script inner) text is))
 
 pub at_hand::call_on_hand-returns-in_err-count_sum-clause-here : goal.at_hand::call_on_hand-returns-in_err-count_sum-clause-here
 at_hand::call_on_hand-returns-in_err-count_sum-clause-here g t c = on_completion c.from_residual.result (IsHere c.args.tree.now c.count_sum.new.tree c.args.place) c.count_sum.ensures.here
@@ -342,9 +324,9 @@ at_hand::call_on_hand-returns-then-sums-clause-runs g t c =
     (CallsNamed (ways g.O.Outside.goes g.O.Outside.loses) c.count_sum.new.tree c.count_sum.new.outside c.args.place c.args.command.now c.args.word.now c.args.args.now c.call_named.new.tree c.call_named.new.outside)
     (CallsAtHand (ways g.O.Outside.goes g.O.Outside.loses) c.args.tree.now c.args.outside.now c.args.place c.args.command.now c.args.word.now c.args.sums c.args.args.now c.call_named.new.tree c.call_named.new.outside)
     (λ e h q style n at there named ws call.
-    let k = subst (λ (b : Bool). IsCall style n ws c.args.word.now b c.args.args.now) c.if-sums.true call in
+    let k = subst (λ (b : Bool). AllEnd style n ws b (c.args.word.now ∷ c.args.args.now)) c.if-sums.true call in
     let m = c.in_ok-count_sum.ensures.own q n at.names there in
-    Calls.sum_goes style ws c.args.word.now c.args.args.now there k (c.in_ok-count_sum.ensures.sums q style n (there_at c.args.tree.now c.args.place q style at) there (read_script k.ends.2) k.text k.ends.4)
+    Calls.sum_goes style ws [] (c.args.word.now ∷ c.args.args.now) there k (λ inner text is. c.in_ok-count_sum.ensures.sums q style n (there_at c.args.tree.now c.args.place q style at) there (read_script inner) text is) m.1 m.2
     (h q style m.0 (still_at c.args.tree.now c.count_sum.new.tree c.args.place q style c.count_sum.ensures.here at) m.1 (named_own n m.0 c.args.word.now c.args.command.now m.2 named)))
     c.call_named.ensures.runs
 
@@ -360,65 +342,24 @@ at_hand::call_on_hand-returns-clause-runs g t c =
     (CallsNamed (ways g.O.Outside.goes g.O.Outside.loses) c.args.tree.now c.args.outside.now c.args.place c.args.command.now c.args.word.now c.args.args.now c.call_named-2.new.tree c.call_named-2.new.outside)
     (CallsAtHand (ways g.O.Outside.goes g.O.Outside.loses) c.args.tree.now c.args.outside.now c.args.place c.args.command.now c.args.word.now c.args.sums c.args.args.now c.call_named-2.new.tree c.call_named-2.new.outside)
     (λ e h q style n at there named ws call.
-    let k = subst (λ (b : Bool). IsCall style n ws c.args.word.now b c.args.args.now) c.if-sums.false call in
-    Calls.plain_goes style ws c.args.word.now c.args.args.now there k (h q style n at there named))
+    let k = subst (λ (b : Bool). AllEnd style n ws b (c.args.word.now ∷ c.args.args.now)) c.if-sums.false call in
+    Calls.plain_goes style ws (c.args.word.now ∷ c.args.args.now) there k (h q style n at there named))
     c.call_named-2.ensures.runs
 
-pub at_hand::call_of_one-returns-clause-runs : goal.at_hand::call_of_one-returns-clause-runs
-at_hand::call_of_one-returns-clause-runs g t c =
+pub at_hand::call_at_hand-returns-clause-runs : goal.at_hand::call_at_hand-returns-clause-runs
+at_hand::call_at_hand-returns-clause-runs g t c =
+    let rest = take (length c.args.words.now - 1) (drop 1 c.args.words.now) in
+    let values = c.in_ok-hand.hand.values.items in
     IfRan-more c.call_on_hand.result
-    (CallsAtHand (ways g.O.Outside.goes g.O.Outside.loses) c.args.tree.now c.args.outside.now c.args.place c.in_ok-command.command c.in-Literal.name c.in_ok-value.sums (c.in_ok-value.value ∷ []) c.call_on_hand.new.tree c.call_on_hand.new.outside)
-    (EndsFrom (ways g.O.Outside.goes g.O.Outside.loses) c.args.tree.now c.args.outside.now c.args.place (λ style. words (seen_word c.args.word.now ∷ seen_word c.args.last.now ∷ []) []) c.call_on_hand.new.tree c.call_on_hand.new.outside)
+    (CallsAtHand (ways g.O.Outside.goes g.O.Outside.loses) c.args.tree.now c.args.outside.now c.args.place c.in_ok-command.command c.in-Literal.name c.in_ok-hand.hand.sums c.as_slice-args.result.now c.call_on_hand.new.tree c.call_on_hand.new.outside)
+    (EndsFrom (ways g.O.Outside.goes g.O.Outside.loses) c.args.tree.now c.args.outside.now c.args.place (λ style. words (map seen_word c.args.words.now) []) c.call_on_hand.new.tree c.call_on_hand.new.outside)
     (λ e h q style at.
     let n = stands (tree_of c.args.tree.now q) (tree_there c.args.tree.now q _ at.names) in
-    h q style n.0 at n.1 (c.in_ok-command.ensures q n.0 at.names n.1) (seen_word c.args.word.now ∷ seen_word c.args.last.now ∷ []) (record {
-      front = seen_word c.args.word.now ∷ [];
-      last = seen_word c.args.last.now;
-      before = c.in-Literal.name ∷ [];
-      text = c.in_ok-value.value;
-      words_are = refl;
-      args_are = refl;
-      stand = (Calls.literal_stands n.0.own.chain.frames (seen_word c.args.word.now) c.in-Literal.name (ap seen_word c.in-Literal.is) (Steps.within_fits c.in-Literal.name c.text_len-within.ensures.within), tt);
-      ends = subst (λ (s : Integers). EndsAs s n.0 (seen_word c.args.last.now) c.in_ok-value.sums c.in_ok-value.value) at.style_is (c.in_ok-value.ensures q n.0 at.names n.1);
-    }))
-    c.call_on_hand.ensures.runs
-
-pub at_hand::call_of_two-returns-clause-runs : goal.at_hand::call_of_two-returns-clause-runs
-at_hand::call_of_two-returns-clause-runs g t c =
-    IfRan-more c.call_on_hand.result
-    (CallsAtHand (ways g.O.Outside.goes g.O.Outside.loses) c.args.tree.now c.args.outside.now c.args.place c.in_ok-command.command c.in-Literal.name c.in_ok-end.sums (c.in_ok-value.value ∷ c.in_ok-end.end ∷ []) c.call_on_hand.new.tree c.call_on_hand.new.outside)
-    (EndsFrom (ways g.O.Outside.goes g.O.Outside.loses) c.args.tree.now c.args.outside.now c.args.place (λ style. words (seen_word c.args.word.now ∷ seen_word c.args.first.now ∷ seen_word c.args.last.now ∷ []) []) c.call_on_hand.new.tree c.call_on_hand.new.outside)
-    (λ e h q style at.
-    let n = stands (tree_of c.args.tree.now q) (tree_there c.args.tree.now q _ at.names) in
-    h q style n.0 at n.1 (c.in_ok-command.ensures q n.0 at.names n.1) (seen_word c.args.word.now ∷ seen_word c.args.first.now ∷ seen_word c.args.last.now ∷ []) (record {
-      front = seen_word c.args.word.now ∷ seen_word c.args.first.now ∷ [];
-      last = seen_word c.args.last.now;
-      before = c.in-Literal.name ∷ c.in_ok-value.value ∷ [];
-      text = c.in_ok-end.end;
-      words_are = refl;
-      args_are = refl;
-      stand = (Calls.literal_stands n.0.own.chain.frames (seen_word c.args.word.now) c.in-Literal.name (ap seen_word c.in-Literal.is) (Steps.within_fits c.in-Literal.name c.text_len-within.ensures.within), (c.in_ok-value.ensures q n.0 at.names n.1, tt));
-      ends = subst (λ (s : Integers). EndsAs s n.0 (seen_word c.args.last.now) c.in_ok-end.sums c.in_ok-end.end) at.style_is (c.in_ok-end.ensures q n.0 at.names n.1);
-    }))
-    c.call_on_hand.ensures.runs
-
-pub at_hand::call_of_three-returns-clause-runs : goal.at_hand::call_of_three-returns-clause-runs
-at_hand::call_of_three-returns-clause-runs g t c =
-    IfRan-more c.call_on_hand.result
-    (CallsAtHand (ways g.O.Outside.goes g.O.Outside.loses) c.args.tree.now c.args.outside.now c.args.place c.in_ok-command.command c.in-Literal.name c.in_ok-end.sums (c.in_ok-value.value ∷ c.in_ok-other.other ∷ c.in_ok-end.end ∷ []) c.call_on_hand.new.tree c.call_on_hand.new.outside)
-    (EndsFrom (ways g.O.Outside.goes g.O.Outside.loses) c.args.tree.now c.args.outside.now c.args.place (λ style. words (seen_word c.args.word.now ∷ seen_word c.args.first.now ∷ seen_word c.args.second.now ∷ seen_word c.args.last.now ∷ []) []) c.call_on_hand.new.tree c.call_on_hand.new.outside)
-    (λ e h q style at.
-    let n = stands (tree_of c.args.tree.now q) (tree_there c.args.tree.now q _ at.names) in
-    h q style n.0 at n.1 (c.in_ok-command.ensures q n.0 at.names n.1) (seen_word c.args.word.now ∷ seen_word c.args.first.now ∷ seen_word c.args.second.now ∷ seen_word c.args.last.now ∷ []) (record {
-      front = seen_word c.args.word.now ∷ seen_word c.args.first.now ∷ seen_word c.args.second.now ∷ [];
-      last = seen_word c.args.last.now;
-      before = c.in-Literal.name ∷ c.in_ok-value.value ∷ c.in_ok-other.other ∷ [];
-      text = c.in_ok-end.end;
-      words_are = refl;
-      args_are = refl;
-      stand = (Calls.literal_stands n.0.own.chain.frames (seen_word c.args.word.now) c.in-Literal.name (ap seen_word c.in-Literal.is) (Steps.within_fits c.in-Literal.name c.text_len-within.ensures.within), (c.in_ok-value.ensures q n.0 at.names n.1, (c.in_ok-other.ensures q n.0 at.names n.1, tt)));
-      ends = subst (λ (s : Integers). EndsAs s n.0 (seen_word c.args.last.now) c.in_ok-end.sums c.in_ok-end.end) at.style_is (c.in_ok-end.ensures q n.0 at.names n.1);
-    }))
+    let literal = Calls.literal_stands n.0.own.chain.frames (seen_word c.first-item.result) c.in-Literal.name (ap seen_word c.in-Literal.is) (Steps.within_fits c.in-Literal.name c.text_len-within.ensures.within) in
+    let ends : AllEnd style n.0 (map seen_word rest) c.in_ok-hand.hand.sums values = subst (λ (s : Integers). AllEnd s n.0 (map seen_word rest) c.in_ok-hand.hand.sums values) at.style_is (c.in_ok-hand.ensures q n.0 at.names n.1) in
+    at_prog (ap (λ (ws : List PreparedWord). words (map seen_word ws) []) (split_first c.args.words.now c.first-item.result c.in-len1-up.len_at_least c.first-item.is))
+    (h q style n.0 at n.1 (c.in_ok-command.ensures q n.0 at.names n.1) (seen_word c.first-item.result ∷ map seen_word rest)
+    (inl (literal, subst (λ (ts : List Text). AllEnd style n.0 (map seen_word rest) c.in_ok-hand.hand.sums ts) (sym c.as_slice-args.ensures) ends))))
     c.call_on_hand.ensures.runs
 
 -- words in general

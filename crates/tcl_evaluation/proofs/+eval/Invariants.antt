@@ -85,17 +85,8 @@ decreases-at_hand::call_named g l = 32032 * g.O.Outside.entries_left l.outside.n
 abbrev pub decreases-at_hand::call_on_hand : goal.decreases-at_hand::call_on_hand
 decreases-at_hand::call_on_hand g l = 32032 * g.O.Outside.entries_left l.outside.now + 32 * room (tree_of l.tree.now) + 13
 
-abbrev pub decreases-at_hand::call_of_one : goal.decreases-at_hand::call_of_one
-decreases-at_hand::call_of_one g l = 32032 * g.O.Outside.entries_left l.outside.now + 32 * room (tree_of l.tree.now) + 14
-
-abbrev pub decreases-at_hand::call_of_two : goal.decreases-at_hand::call_of_two
-decreases-at_hand::call_of_two g l = 32032 * g.O.Outside.entries_left l.outside.now + 32 * room (tree_of l.tree.now) + 14
-
-abbrev pub decreases-at_hand::call_of_three : goal.decreases-at_hand::call_of_three
-decreases-at_hand::call_of_three g l = 32032 * g.O.Outside.entries_left l.outside.now + 32 * room (tree_of l.tree.now) + 14
-
 abbrev pub decreases-at_hand::call_at_hand : goal.decreases-at_hand::call_at_hand
-decreases-at_hand::call_at_hand g l = 32032 * g.O.Outside.entries_left l.outside.now + 32 * room (tree_of l.tree.now) + 15
+decreases-at_hand::call_at_hand g l = 32032 * g.O.Outside.entries_left l.outside.now + 32 * room (tree_of l.tree.now) + 14
 
 abbrev pub decreases-words::call_general : goal.decreases-words::call_general
 decreases-words::call_general g l = 32032 * g.O.Outside.entries_left l.outside.now + 32 * room (tree_of l.tree.now) + 16

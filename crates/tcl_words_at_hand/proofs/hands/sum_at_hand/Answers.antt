@@ -1,25 +1,4 @@
-use Rattle.std.proofs.Common.{
-  ◌≡◌,
-  ℕ,
-  List,
-  [],
-  ◌∷◌,
-  ◌-◌,
-  take,
-  drop,
-  get_or,
-  length,
-  map,
-  None,
-  ap,
-  sym,
-  subst,
-  ◌∙◌,
-  FitsSigned,
-  w64,
-  rules,
-  arith,
-}
+use Rattle.std.proofs.Common.{◌≡◌, ℕ, List, [], ◌∷◌, ◌-◌, take, drop, get_or, length, map, None, ap, sym, subst, ◌∙◌, FitsSigned, w64, rules, arith}
 use Rattle.std.proofs.lemmas.Int.{to_z-of_z}
 use Rattle.std.specs.Fmt.{signed_decimal}
 use Rattle.tcl_expr.specs.declared.tree.ExprTree.{ExprTree}

@@ -1,7 +1,7 @@
 use Rattle.std.proofs.Common.{◌≡◌, ap, subst, ◌∙◌}
 use Rattle.tcl_parser.specs.Words.{Reading, WordRead}
 use Rattle.tcl_words_at_hand.specs.Hands.{IsSum}
-use Rattle.tcl_words_at_hand.proofs.hands.last_at_hand.Goals as goal
+use Rattle.tcl_words_at_hand.proofs.hands.end_at_hand.Goals as goal
 
 pub returns-in-Some : goal.returns-in-Some
 returns-in-Some c = λ p n names there. (
