@@ -1,4 +1,4 @@
-//! Commands whose words are at hand: they are called without an evaluation of each word.
+//! What is at hand: words, commands and sums that are known without an evaluation.
 #![tactic(auto)]
 
 pub mod calls;
