@@ -1,20 +1,16 @@
 -- How the ends of calls are told to callers elsewhere.
-use Rattle.std.proofs.Common.{◌≡◌, ℕ, List, Option, Some, None, refl, ◌∙◌, ap}
+use Rattle.std.proofs.Common.{◌≡◌, ℕ, List, Some, refl, ◌∙◌}
 use Rattle.std.specs.Prelude.{Result, Ok, Err}
-use Rattle.tcl_core.specs.Endings.{Reply, ok}
-use Rattle.tcl_core.specs.Endings.Reply.{Completed, Exit, Cut}
+use Rattle.tcl_core.specs.Endings.{Reply}
 use Rattle.tcl_core.specs.Paths.{Path, rise_to}
-use Rattle.tcl_core.specs.Runs.{carried, carried_by, gone}
+use Rattle.tcl_core.specs.Runs.{carried, gone}
 use Rattle.tcl_core.specs.Runs as core
 use Rattle.tcl_core.specs.Trees.{Tree}
-use Rattle.tcl_flow.specs.Stopping.{reply_of}
-use Rattle.tcl_flow.specs.View.{completion_of}
-use Rattle.tcl_flow.specs.declared.stop.Stop.{Stop}
-use Rattle.tcl_run.specs.Ends.{Completes, IfEnded, Interrupts, OnCompletion, cause_of}
+use Rattle.tcl_run.specs.Ends.{IfEnded, Interrupts}
 use Rattle.tcl_run.specs.Outsides.{Going, Returns}
 use Rattle.tcl_run.specs.declared.interruption.Interruption.{Interruption}
 use Rattle.tcl_run.specs.declared.interruption.Interruption.TheVariants as interruption
-use Rattle.tcl_run.proofs.Endings.{IfEnded-both, Interrupts-both, Interrupts-more}
+use Rattle.tcl_run.proofs.Endings.{Interrupts-both}
 use Rattle.tcl_tree.specs.Own.{Own}
 use Rattle.tcl_calls.specs.Carrying.{ComesBack, EndedBy}
 

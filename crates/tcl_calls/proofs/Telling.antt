@@ -1,19 +1,15 @@
 -- How ends are told to a caller that may be gone.
-use Rattle.std.proofs.Common.{◌≡◌, ℕ, ℤ, List, Option, Some, None, refl, sym, ◌∙◌, ap, subst}
-use Rattle.std.specs.Prelude.{Result, Ok, Err}
+use Rattle.std.proofs.Common.{◌≡◌, ℕ, Option, Some, refl, sym, ◌∙◌, ap, subst}
 use Rattle.tcl_core.specs.Endings as core
-use Rattle.tcl_core.specs.Endings.{Completion, Reply, ok}
+use Rattle.tcl_core.specs.Endings.{Completion, Reply}
 use Rattle.tcl_core.specs.Endings.Kind.{Gone}
-use Rattle.tcl_core.specs.Endings.Reply.{Completed, Stop, Exit, Cut}
+use Rattle.tcl_core.specs.Endings.Reply.{Completed, Stop}
 use Rattle.tcl_core.specs.Paths.{Path}
-use Rattle.tcl_core.specs.Runs.{carried, carried_by, ended}
-use Rattle.tcl_flow.specs.Stopping.{reply_of}
-use Rattle.tcl_flow.specs.View.{completion_of}
-use Rattle.tcl_run.specs.Ends.{Completes, Interrupts, OnCompletion, cause_of}
+use Rattle.tcl_core.specs.Runs.{carried, ended}
+use Rattle.tcl_run.specs.Ends.{Interrupts}
 use Rattle.tcl_run.specs.declared.interruption.Interruption.{Interruption}
 use Rattle.tcl_run.specs.declared.interruption.Interruption.TheVariants as interruption
 use Rattle.tcl_run.proofs.Endings.{Interrupts-more}
-use Rattle.tcl_calls.specs.Carrying.{EndedBy}
 
 -- what is told of what is told
 pub seen_told : (told result : Interruption) (g : Option ℕ) (P Q : Reply → Type 0) → (told ≡ interruption.Memory → result ≡ interruption.Memory) → Interrupts told (λ r. Interrupts result (λ e. e ≡ ended g r)) → Interrupts told Q → ((r e : Reply) → Q r → e ≡ ended g r → P e) → Interrupts result P

@@ -265,9 +265,9 @@ fn run<O: Outside>(
         (λ end. IsOpenRun O.goes tree.old outside.old path.now script.now start.most tree.new
         outside.new end) }
 {
-    let mut script = Value::from_short_text(Text::new(alloc, script)?);
+    let script = Value::from_short_text(Text::new(alloc, script)?);
     tree.set_run_limit(Some(start.most));
-    let ended = serve_eval(tree, alloc, outside, start.place, &mut script);
+    let ended = serve_eval(tree, alloc, outside, start.place, &script);
     let told = leave(tree, alloc, outside, path, ended);
     tree.set_run_limit(start.own);
     told

@@ -17,7 +17,9 @@ use Rattle.tcl_language_laws.specs.Language.{language}
 use Rattle.tcl_run.specs.Ends.{IsFailure, Stays, itself}
 use Rattle.tcl_run.specs.Plain.{Does}
 use Rattle.tcl_run.specs.Runs.{Proceeds, Ways}
-use Rattle.tcl_run.proofs.Proceeding.{IsQuitting, at_prog, at_start, goes_done, goes_on, grows, passed, read_fails, reads_on, stopped}
+use Rattle.tcl_run.proofs.Proceeding.{
+    IsQuitting, at_prog, at_start, goes_done, goes_on, grows, passed, read_fails, reads_on
+}
 use Rattle.tcl_text.specs.Lists.{list_of}
 use Rattle.tcl_text.specs.Writing.{fault_message}
 use Rattle.tcl_text.specs.declared.integer.Integers.{Integers}
@@ -86,11 +88,6 @@ module _ {S : Type 0} {ways : Ways S} (style : Integers) where
       Proceeds ways (language style) T o p (handled body handlers) U u r → Proceeds ways (language style) T o p (finishes body handlers last) U u r
   finish_passes body handlers None q t = passed q t
   finish_passes body handlers (Some s) q t = passed q t
-
-  -- it is given up before the last script
-  pub finish_lost : {T U V : Tree Own} {o u : S} {p : Path} (body : Text) (handlers : List Handler) (last : Option Text) (s : Text) (c : Completion) → last ≡ Some s →
-      Proceeds ways (language style) T o p (handled body handlers) U u (Some (Completed c)) → Proceeds ways (language style) T o p (finishes body handlers last) V u None
-  finish_lost body handlers last s c some t = at_prog (ap (finishes body handlers) some) (goes_on {i = Handled body handlers} t stopped)
 
   pub finish_stays : {T U V : Tree Own} {o u z : S} {p : Path} (body : Text) (handlers : List Handler) (last : Option Text) (s : Text) (c : Completion) (e : Ending) → last ≡ Some s → Stays e →
       Proceeds ways (language style) T o p (handled body handlers) U u (Some (Completed c)) → Proceeds ways (language style) U u p (script s) V z e → Proceeds ways (language style) T o p (finishes body handlers last) V z e

@@ -40,7 +40,6 @@ pub fn lmap<O: Outside>(
         return Err(wrong_args(alloc, LMAP));
     };
     let walks = read_walks(alloc, LMAP, words)?;
-    let mut body = body.clone()?;
     let mut made = List::new(alloc)?;
     'turns: for turns in 0..usize::MAX {
         if is_over(walks.as_slice(), turns) {
@@ -48,7 +47,7 @@ pub fn lmap<O: Outside>(
         }
         charge(tree, outside, place)?;
         set_walks(tree, alloc, place, walks.as_slice(), turns)?;
-        let ended = eval_value(tree, alloc, outside, place, &mut body);
+        let ended = eval_value(tree, alloc, outside, place, body);
         if !collects(alloc, &mut made, ended)? {
             return collected(alloc, made);
         }

@@ -184,9 +184,8 @@ fn call_procedure<O: Outside>(
         return Err(wrong_form(alloc, word, procedure.parameters()));
     };
     let words = words_of_call(alloc, word, args)?;
-    let mut body = procedure.body().clone()?;
     enter_frame(tree, alloc, place, words, bindings.as_slice())?;
-    let ended = eval_value(tree, alloc, outside, place, &mut body);
+    let ended = eval_value(tree, alloc, outside, place, procedure.body());
     leave_frame(tree, place);
     left_proc(alloc, ended)
 }

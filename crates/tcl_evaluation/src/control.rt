@@ -36,8 +36,8 @@ pub fn eval<O: Outside>(
     if args.is_empty() {
         return Err(wrong_args(alloc, "eval arg ?arg ...?"));
     }
-    let mut script = script_of(alloc, args)?;
-    eval_value(tree, alloc, outside, place, &mut script)
+    let script = script_of(alloc, args)?;
+    eval_value(tree, alloc, outside, place, &script)
 }
 
 /// `catch script ?resultVarName? ?optionVarName?`: evaluates a script and gives the code of its
@@ -67,8 +67,7 @@ pub fn catch<O: Outside>(
     if names.len() > 2 {
         return Err(wrong_args(alloc, CATCH));
     }
-    let mut script = script.clone()?;
-    let completion = caught(eval_value(tree, alloc, outside, place, &mut script))?;
+    let completion = caught(eval_value(tree, alloc, outside, place, script))?;
     keep_caught(tree, alloc, place, names, &completion)?;
     Ok(Value::from_int(completion.code))
 }

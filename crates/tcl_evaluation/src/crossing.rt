@@ -221,7 +221,7 @@ pub fn serve_entry<O: Outside>(
     ensures keeps { Keeps O.entries_left tree.old tree.new outside.old outside.new }
 {
     match entry {
-        Entry::Eval(mut script) => serve_eval(tree, alloc, outside, place, &mut script),
+        Entry::Eval(script) => serve_eval(tree, alloc, outside, place, &script),
         Entry::CallWords(words) => serve_call(tree, alloc, outside, place, words),
         Entry::InvokeHidden { is_global, words } => {
             serve_hidden(tree, alloc, outside, place, is_global, words)
@@ -285,11 +285,11 @@ pub fn serve_eval<O: Outside>(
     alloc: Global,
     outside: &mut O,
     place: Place,
-    script: &mut Value,
+    script: &Value,
 ) -> Result<Value, Interruption>
     requires { (p : Path) × Names tree.old place p }
     ensures runs { ProceedsAt (ways O.goes O.loses) tree.old outside.old place
-        (λ style. table.serve style (Eval script.old)) tree.new outside.new result }
+        (λ style. table.serve style (Eval script.now)) tree.new outside.new result }
     ensures held { (p : Path) → Names tree.old place p → IsHeld tree.old tree.new p }
     ensures here { OnCompletion result (IsHere tree.old tree.new place) }
     ensures keeps { Keeps O.entries_left tree.old tree.new outside.old outside.new }

@@ -1,5 +1,5 @@
 //! The evaluation of scripts, command by command and word by word.
-ghost use Rattle.std.specs.Prelude.{◌≡◌, ◌++◌, ◌∷◌, [], length, map, Some, OnOk, IfErr};
+ghost use Rattle.std.specs.Prelude.{◌++◌, ◌∷◌, [], length, map, Some, OnOk, IfErr};
 ghost use Rattle.std.specs.Prelude.{MatchResult};
 ghost use Rattle.std.specs.String.{string_bytes};
 ghost use Rattle.tcl_core.specs.Paths.{Path};
@@ -95,12 +95,11 @@ pub fn eval_value<O: Outside>(
     alloc: Global,
     outside: &mut O,
     place: Place,
-    value: &mut Value,
+    value: &Value,
 ) -> Result<Value, Interruption>
     requires { (p : Path) × Names tree.old place p }
     ensures runs { ProceedsAt (ways O.goes O.loses) tree.old outside.old place
-        (λ style. scripts.script value.old) tree.new outside.new result }
-    ensures same { value.new ≡ value.old }
+        (λ style. scripts.script value.now) tree.new outside.new result }
     ensures held { (p : Path) → Names tree.old place p → IsHeld tree.old tree.new p }
     ensures here { OnCompletion result (IsHere tree.old tree.new place) }
     ensures keeps { Keeps O.entries_left tree.old tree.new outside.old outside.new }

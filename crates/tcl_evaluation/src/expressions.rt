@@ -1,5 +1,5 @@
 //! Expressions, and the commands with conditions.
-ghost use Rattle.std.specs.Prelude.{◌≡◌, MatchResult};
+ghost use Rattle.std.specs.Prelude.{MatchResult};
 ghost use Rattle.tcl_language.specs.Expressions as expressions;
 ghost use Rattle.tcl_run.specs.Ends.{Breaks, OnCompletion};
 ghost use Rattle.tcl_run.specs.Runs.{IsHere, IsRunning, Keeps, ProceedsIn, ways};
@@ -170,15 +170,13 @@ pub fn if_first<O: Outside>(
     'tests: for branch in tests.as_slice() {
         let test = read_expression(tree, alloc, tree.integers(), branch.test)?;
         if condition(tree, alloc, outside, place, &mut evaluation, &test)? {
-            let mut body = branch.body.clone()?;
-            return eval_value(tree, alloc, outside, place, &mut body);
+            return eval_value(tree, alloc, outside, place, branch.body);
         }
     }
     let Some(last) = last else {
         return Ok(Value::empty());
     };
-    let mut body = last.clone()?;
-    eval_value(tree, alloc, outside, place, &mut body)
+    eval_value(tree, alloc, outside, place, last)
 }
 
 /// A turn of a loop with a condition: whether the loop goes on. Where the condition holds, the turn
@@ -192,15 +190,14 @@ fn turn<O: Outside>(
     place: Place,
     evaluation: &mut Evaluation,
     test: &ExprTree,
-    body: &mut Value,
+    body: &Value,
 ) -> Result<bool, Interruption>
     requires { IsRunning tree.old place }
     ensures runs { MatchResult result
-        (λ on. TurnGoes (ways O.goes O.loses) tree.old outside.old place test.now body.old tree.new
+        (λ on. TurnGoes (ways O.goes O.loses) tree.old outside.old place test.now body.now tree.new
         outside.new on)
         (λ i. Breaks i (TurnBreaks (ways O.goes O.loses) tree.old outside.old place test.now
-        body.old tree.new outside.new)) }
-    ensures same { body.new ≡ body.old }
+        body.now tree.new outside.new)) }
     ensures here { OnCompletion result (IsHere tree.old tree.new place) }
     ensures keeps { Keeps O.entries_left tree.old tree.new outside.old outside.new }
 {
@@ -237,10 +234,9 @@ pub fn while_loop<O: Outside>(
         return Err(wrong_args(alloc, "while test command"));
     };
     let test = read_expression(tree, alloc, tree.integers(), test)?;
-    let mut body = body.clone()?;
     let mut state = Evaluation::new(alloc);
     'turns: for _turn in 0..u64::MAX {
-        if !turn(tree, alloc, outside, place, &mut state, &test, &mut body)? {
+        if !turn(tree, alloc, outside, place, &mut state, &test, body)? {
             return Ok(Value::empty());
         }
     }
@@ -272,17 +268,14 @@ pub fn for_loop<O: Outside>(
     let [start, test, next, body] = args else {
         return Err(wrong_args(alloc, "for start test next command"));
     };
-    let mut start = start.clone()?;
-    on_ok(eval_value(tree, alloc, outside, place, &mut start))?;
+    on_ok(eval_value(tree, alloc, outside, place, start))?;
     let test = read_expression(tree, alloc, tree.integers(), test)?;
-    let mut next = next.clone()?;
-    let mut body = body.clone()?;
     let mut state = Evaluation::new(alloc);
     'turns: for _turn in 0..u64::MAX {
-        if !turn(tree, alloc, outside, place, &mut state, &test, &mut body)? {
+        if !turn(tree, alloc, outside, place, &mut state, &test, body)? {
             return Ok(Value::empty());
         }
-        if !turns_on(eval_value(tree, alloc, outside, place, &mut next))? {
+        if !turns_on(eval_value(tree, alloc, outside, place, next))? {
             return Ok(Value::empty());
         }
     }

@@ -45,14 +45,13 @@ fn walk_through<O: Outside>(
     ensures here { OnCompletion result (IsHere tree.old tree.new place) }
     ensures keeps { Keeps O.entries_left tree.old tree.new outside.old outside.new }
 {
-    let mut script = body.clone()?;
     'turns: for turns in 0..usize::MAX {
         if is_over(walks, turns) {
             return Ok(Value::empty());
         }
         charge(tree, outside, place)?;
         set_walks(tree, alloc, place, walks, turns)?;
-        if !goes_on(eval_value(tree, alloc, outside, place, &mut script))? {
+        if !goes_on(eval_value(tree, alloc, outside, place, body))? {
             return Ok(Value::empty());
         }
     }
@@ -172,9 +171,9 @@ pub fn uplevel<O: Outside>(
     ensures keeps { Keeps O.entries_left tree.old tree.new outside.old outside.new }
 {
     let (level, words) = script_level(tree, alloc, place, args)?;
-    let mut script = script_of(alloc, words)?;
+    let script = script_of(alloc, words)?;
     set_aside(tree, alloc, place, level)?;
-    let ended = eval_value(tree, alloc, outside, place, &mut script);
+    let ended = eval_value(tree, alloc, outside, place, &script);
     bring_back(tree, place);
     ended
 }

@@ -60,8 +60,8 @@ fn source_file<O: Outside>(
     ensures here { OnCompletion result (IsHere tree.old tree.new place) }
     ensures keeps { Keeps O.entries_left tree.old tree.new outside.old outside.new }
 {
-    let mut script = read_file(tree, alloc, outside, place, file)?;
-    eval_file(tree, alloc, outside, place, &mut script)
+    let script = read_file(tree, alloc, outside, place, file)?;
+    eval_file(tree, alloc, outside, place, &script)
 }
 
 /// Reads the script of a file: by an open, a read of all and a close.
@@ -119,11 +119,11 @@ fn eval_file<O: Outside>(
     alloc: Global,
     outside: &mut O,
     place: Place,
-    script: &mut Value,
+    script: &Value,
 ) -> Result<Value, Interruption>
     requires { IsRunning tree.old place }
     ensures runs { ProceedsIn (ways O.goes O.loses) tree.old outside.old place
-        (λ style. sourcing.evaluates_file script.old) tree.new outside.new result }
+        (λ style. sourcing.evaluates_file script.now) tree.new outside.new result }
     ensures here { OnCompletion result (IsHere tree.old tree.new place) }
     ensures keeps { Keeps O.entries_left tree.old tree.new outside.old outside.new }
 {

@@ -34,6 +34,5 @@ pub fn switch<O: Outside>(
     let Some(body) = chosen_body(alloc, args)? else {
         return Ok(Value::empty());
     };
-    let mut script = body;
-    eval_value(tree, alloc, outside, place, &mut script)
+    eval_value(tree, alloc, outside, place, &body)
 }

@@ -40,8 +40,7 @@ fn run_handler<O: Outside>(
     let Some(script) = chosen else {
         return Ok(Value::empty());
     };
-    let mut own = script.clone()?;
-    eval_value(tree, alloc, outside, place, &mut own)
+    eval_value(tree, alloc, outside, place, script)
 }
 
 /// Sets the variables of the first handler that handles a completion, and evaluates its script.
@@ -94,8 +93,7 @@ fn handled<O: Outside>(
     ensures here { OnCompletion result (IsHere tree.old tree.new place) }
     ensures keeps { Keeps O.entries_left tree.old tree.new outside.old outside.new }
 {
-    let mut script = body.clone()?;
-    let completion = caught(eval_value(tree, alloc, outside, place, &mut script))?;
+    let completion = caught(eval_value(tree, alloc, outside, place, body))?;
     handle(tree, alloc, outside, place, completion, handlers)
 }
 
@@ -131,7 +129,6 @@ pub fn try_script<O: Outside>(
         return ended;
     };
     let completion = caught(ended)?;
-    let mut script = last.clone()?;
-    on_ok(eval_value(tree, alloc, outside, place, &mut script))?;
+    on_ok(eval_value(tree, alloc, outside, place, last))?;
     released(alloc, completion)
 }

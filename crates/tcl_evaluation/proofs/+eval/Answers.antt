@@ -1139,11 +1139,6 @@ commands::call_procedure-returns-in_err-words-clause-runs g t c =
     let p = err_from_is_err_and c.from_residual-in_err-words.result c.from_residual-in_err-words.ensures.1 in
     memory_err c.from_residual-in_err-words.result p.0 _ _ p.1 p.2 (λ q style at. stopped)
 
-pub commands::call_procedure-returns-in_err-body-clause-runs : goal.commands::call_procedure-returns-in_err-body-clause-runs
-commands::call_procedure-returns-in_err-body-clause-runs g t c =
-    let p = err_from_is_err_and c.from_residual-in_err-body.result c.from_residual-in_err-body.ensures.1 in
-    memory_err c.from_residual-in_err-body.result p.0 _ _ p.1 p.2 (λ q style at. stopped)
-
 pub commands::call_procedure-returns-in_err-enter_frame-clause-runs : goal.commands::call_procedure-returns-in_err-enter_frame-clause-runs
 commands::call_procedure-returns-in_err-enter_frame-clause-runs g t c =
     let p = err_from_is_err_and c.from_residual-in_err-enter_frame.result c.from_residual-in_err-enter_frame.ensures.1 in
@@ -1153,7 +1148,7 @@ pub commands::call_procedure-returns-clause-runs : goal.commands::call_procedure
 commands::call_procedure-returns-clause-runs g t c =
     let found = rw c.in-Some.is at c.in_ok-bindings.ensures.bound in
     left_more c.eval_value-ended.result c.left_proc.result
-    (EndsAt (ways g.O.Outside.goes g.O.Outside.loses) c.enter_frame.new.tree c.args.outside.now c.args.place (λ style. script c.in_ok-body.body) c.eval_value-ended.new.tree c.eval_value-ended.new.outside)
+    (EndsAt (ways g.O.Outside.goes g.O.Outside.loses) c.enter_frame.new.tree c.args.outside.now c.args.place (λ style. script c.body.result.now) c.eval_value-ended.new.tree c.eval_value-ended.new.outside)
     (EndsFrom (ways g.O.Outside.goes g.O.Outside.loses) c.args.tree.now c.args.outside.now c.args.place (λ style. procedure c.args.procedure.now c.args.word.now c.args.args.now) c.leave_frame.new.tree c.eval_value-ended.new.outside)
     c.eval_value-ended.ensures.runs c.left_proc.ensures
     (λ e f h l q style at.
@@ -1165,7 +1160,7 @@ commands::call_procedure-returns-clause-runs g t c =
     call_runs style c.args.procedure.now c.args.word.now c.args.args.now (pairs_of c.in-Some.bindings.items) e f
     (ap (λ (ps : List Parameter). bindings ps c.args.args.now) (sym c.parameters.ensures) ∙ found.0) found.1 n.1
     (entered ∙ (λ i. effect q (Changed (in_frame (ws i) (pairs_of (bs i)) n.0.own)) (tree_of c.args.tree.now))) (c.leave_frame.ensures.left q n.0.depth (subst (λ (d : ℕ). Holds c.eval_value-ended.new.tree c.args.place q d) (ap depth_of n.1) (steady_holds c.args.tree.now c.eval_value-ended.new.tree c.args.place q (steady-trans c.args.tree.now c.enter_frame.new.tree c.eval_value-ended.new.tree (level_steady c.args.tree.now c.enter_frame.new.tree c.enter_frame.ensures.level) c.eval_value-ended.ensures.keeps.steady) at.names at.running)))
-    (at_prog (ap script (sym (c.in_ok-body.ensures.cases ∙ c.body.ensures))) (h q style (record { names = here.names; style_is = here.style_is }))) l)
+    (at_prog (ap script (sym c.body.ensures)) (h q style (record { names = here.names; style_is = here.style_is }))) l)
 
 pub commands::call-returns-in_default-clause-runs : goal.commands::call-returns-in_default-clause-runs
 commands::call-returns-in_default-clause-runs g t c = λ q style at.
@@ -1201,51 +1196,46 @@ control::catch-returns-then-names-gt2-clause-runs g t c =
     at_prog (ap control_catch (split_first c.args.args.now c.script-item.result c.in-len1-up.len_at_least c.script-item.is))
     (catch_many style c.script-item.result _ many h)) (λ q style at. stopped) c.wrong_args-then-names-gt2.ensures
 
-pub control::catch-returns-in_err-script-clause-runs : goal.control::catch-returns-in_err-script-clause-runs
-control::catch-returns-in_err-script-clause-runs g t c =
-    let p = err_from_is_err_and c.from_residual.result c.from_residual.ensures.1 in
-    memory_err c.from_residual.result p.0 _ _ p.1 p.2 (λ q style at. stopped)
-
 pub control::catch-returns-in_err-completion-clause-runs : goal.control::catch-returns-in_err-completion-clause-runs
 control::catch-returns-in_err-completion-clause-runs g t c =
     let few = c.if-names-gt2.false in
-    let p = err_from_is_err_and c.from_residual-in_err-completion.result c.from_residual-in_err-completion.ensures.1 in
-    ran_err c.from_residual-in_err-completion.result c.in_err-completion.field-0.0 p.0 _ _ _ p.1 p.2
-    (caught_err c.eval_value.result c.caught.result c.in_err-completion.field-0.0 (EndsAt (ways g.O.Outside.goes g.O.Outside.loses) c.args.tree.now c.args.outside.now c.args.place (λ style. script c.in_ok-script.script) c.eval_value.new.tree c.eval_value.new.outside)
+    let p = err_from_is_err_and c.from_residual.result c.from_residual.ensures.1 in
+    ran_err c.from_residual.result c.in_err-completion.field-0.0 p.0 _ _ _ p.1 p.2
+    (caught_err c.eval_value.result c.caught.result c.in_err-completion.field-0.0 (EndsAt (ways g.O.Outside.goes g.O.Outside.loses) c.args.tree.now c.args.outside.now c.args.place (λ style. script c.script-item.result) c.eval_value.new.tree c.eval_value.new.outside)
     c.in_err-completion.was c.caught.ensures c.eval_value.ensures.runs)
     (λ e h q style at.
     at_prog (ap control_catch (split_first c.args.args.now c.script-item.result c.in-len1-up.len_at_least c.script-item.is))
     (catch_passes style c.script-item.result _ (omega (arith, few)) h.1
-    (at_prog (ap script (sym c.in_ok-script.ensures.cases)) (h.0 q style (record { names = at.names; style_is = at.style_is })))))
+    (h.0 q style (record { names = at.names; style_is = at.style_is }))))
 
 pub control::catch-returns-in_err-keep_caught-clause-runs : goal.control::catch-returns-in_err-keep_caught-clause-runs
 control::catch-returns-in_err-keep_caught-clause-runs g t c =
     let few = c.if-names-gt2.false in
     let p = err_from_is_err_and c.from_residual-in_err-keep_caught.result c.from_residual-in_err-keep_caught.ensures.1 in
-    let caught = caught_ok c.eval_value.result c.caught.result c.in_ok-completion.completion (EndsAt (ways g.O.Outside.goes g.O.Outside.loses) c.args.tree.now c.args.outside.now c.args.place (λ style. script c.in_ok-script.script) c.eval_value.new.tree c.eval_value.new.outside)
+    let caught = caught_ok c.eval_value.result c.caught.result c.in_ok-completion.completion (EndsAt (ways g.O.Outside.goes g.O.Outside.loses) c.args.tree.now c.args.outside.now c.args.place (λ style. script c.script-item.result) c.eval_value.new.tree c.eval_value.new.outside)
     c.in_ok-completion.was c.caught.ensures c.eval_value.ensures.runs in
     fails_err c.from_residual-in_err-keep_caught.result c.in_err-keep_caught.field-0.0 p.0 _ _ _ p.1 p.2 c.in_err-keep_caught.ensures.kept
     (λ e h q style at.
     let after = still_at c.args.tree.now c.eval_value.new.tree c.args.place q style (here_caught c.eval_value.result c.caught.result c.in_ok-completion.completion c.args.tree.now c.eval_value.new.tree c.args.place c.in_ok-completion.was c.caught.ensures c.eval_value.ensures.here) at in
     at_prog (ap control_catch (split_first c.args.args.now c.script-item.result c.in-len1-up.len_at_least c.script-item.is))
     (catch_goes style c.script-item.result _ (completion_of c.in_ok-completion.completion) (omega (arith, few))
-    (at_prog (ap script (sym c.in_ok-script.ensures.cases)) (caught q style (record { names = at.names; style_is = at.style_is })))
+    (caught q style (record { names = at.names; style_is = at.style_is }))
     (does_proceeds _ c.eval_value.new.outside (h q after.names _))))
     (λ q style at.
     at_prog (ap control_catch (split_first c.args.args.now c.script-item.result c.in-len1-up.len_at_least c.script-item.is))
     (catch_goes style c.script-item.result _ (completion_of c.in_ok-completion.completion) (omega (arith, few))
-    (at_prog (ap script (sym c.in_ok-script.ensures.cases)) (caught q style (record { names = at.names; style_is = at.style_is }))) stopped))
+    (caught q style (record { names = at.names; style_is = at.style_is })) stopped))
 
 pub control::catch-returns-clause-runs : goal.control::catch-returns-clause-runs
 control::catch-returns-clause-runs g t c = λ q style at.
     let few = c.if-names-gt2.false in
-    let caught = caught_ok c.eval_value.result c.caught.result c.in_ok-completion.completion (EndsAt (ways g.O.Outside.goes g.O.Outside.loses) c.args.tree.now c.args.outside.now c.args.place (λ style. script c.in_ok-script.script) c.eval_value.new.tree c.eval_value.new.outside)
+    let caught = caught_ok c.eval_value.result c.caught.result c.in_ok-completion.completion (EndsAt (ways g.O.Outside.goes g.O.Outside.loses) c.args.tree.now c.args.outside.now c.args.place (λ style. script c.script-item.result) c.eval_value.new.tree c.eval_value.new.outside)
     c.in_ok-completion.was c.caught.ensures c.eval_value.ensures.runs in
     let after = still_at c.args.tree.now c.eval_value.new.tree c.args.place q style (here_caught c.eval_value.result c.caught.result c.in_ok-completion.completion c.args.tree.now c.eval_value.new.tree c.args.place c.in_ok-completion.was c.caught.ensures c.eval_value.ensures.here) at in
     let code : c.from_int.result ≡ code_text (completion_of c.in_ok-completion.completion) = search rules in
     at_prog (ap control_catch (split_first c.args.args.now c.script-item.result c.in-len1-up.len_at_least c.script-item.is))
     (catch_goes style c.script-item.result _ (completion_of c.in_ok-completion.completion) (omega (arith, few))
-    (at_prog (ap script (sym c.in_ok-script.ensures.cases)) (caught q style (record { names = at.names; style_is = at.style_is })))
+    (caught q style (record { names = at.names; style_is = at.style_is }))
     (does_proceeds _ c.eval_value.new.outside (c.in_ok-keep_caught.ensures.kept q after.names _ (tree_of c.keep_caught.new.tree) _ (refl, ap (λ (x : List ℕ). Completed (ok x)) code))))
 
 pub control::catch-returns-clause-keeps : goal.control::catch-returns-clause-keeps
@@ -1674,24 +1664,12 @@ expressions::if_first-returns-in_err-condition-clause-runs g t c =
     c.tests.invariant.leads q style at _ _ _ (at_prog (ap (λ (bs : List Branch). first_true style (tests_of bs) (option_copied c.in-Some.branches.last)) item)
     (h q style here c.branch-item.result.test.now (Conditions.kept_behind c.integers.result style c.branch-item.result.test.now c.in_ok-test.test.value c.deref.result.now c.deref.ensures same c.in_ok-test.ensures.read) _)))
 
-pub expressions::if_first-returns-in_err-body-clause-runs : goal.expressions::if_first-returns-in_err-body-clause-runs
-expressions::if_first-returns-in_err-body-clause-runs g t c =
-    let item = item_on c.deref-branch-items.result.now c.tests.branch-index c.branch-item.result c.tests-test.true c.branch-item.is in
-    let holds = subst (TestGoes (ways g.O.Outside.goes g.O.Outside.loses) c.tests.tree c.tests.outside c.args.place c.deref.result.now c.condition.new.tree c.condition.new.outside) c.if-branch.true c.in_ok-condition.ensures.runs in
-    let p = err_from_is_err_and c.from_residual-in_err-body.result c.from_residual-in_err-body.ensures.1 in
-    memory_err c.from_residual-in_err-body.result p.0 _ _ p.1 p.2
-    (λ q style at.
-    let here = still_at c.args.tree.now c.tests.tree c.args.place q style c.tests.invariant.here at in
-    let same = c.integers.ensures ∙ here.style_is in
-    c.tests.invariant.leads q style at _ _ _ (at_prog (ap (λ (bs : List Branch). first_true style (tests_of bs) (option_copied c.in-Some.branches.last)) item)
-    (holds q style here c.branch-item.result.test.now (Conditions.kept_behind c.integers.result style c.branch-item.result.test.now c.in_ok-test.test.value c.deref.result.now c.deref.ensures same c.in_ok-test.ensures.read) _ _ _ _ stopped)))
-
 pub expressions::if_first-returns-then-branch-clause-runs : goal.expressions::if_first-returns-then-branch-clause-runs
 expressions::if_first-returns-then-branch-clause-runs g t c =
     let item = item_on c.deref-branch-items.result.now c.tests.branch-index c.branch-item.result c.tests-test.true c.branch-item.is in
     let holds = subst (TestGoes (ways g.O.Outside.goes g.O.Outside.loses) c.tests.tree c.tests.outside c.args.place c.deref.result.now c.condition.new.tree c.condition.new.outside) c.if-branch.true c.in_ok-condition.ensures.runs in
     IfRan-more c.eval_value.result
-    (EndsAt (ways g.O.Outside.goes g.O.Outside.loses) c.condition.new.tree c.condition.new.outside c.args.place (λ style. script c.in_ok-body.body) c.eval_value.new.tree c.eval_value.new.outside)
+    (EndsAt (ways g.O.Outside.goes g.O.Outside.loses) c.condition.new.tree c.condition.new.outside c.args.place (λ style. script c.branch-item.result.body.now) c.eval_value.new.tree c.eval_value.new.outside)
     (EndsFrom (ways g.O.Outside.goes g.O.Outside.loses) c.args.tree.now c.args.outside.now c.args.place (λ style. if_first style c.args.args.now) c.eval_value.new.tree c.eval_value.new.outside)
     (λ e h q style at.
     let here = still_at c.args.tree.now c.tests.tree c.args.place q style c.tests.invariant.here at in
@@ -1699,7 +1677,7 @@ expressions::if_first-returns-then-branch-clause-runs g t c =
     let same = c.integers.ensures ∙ here.style_is in
     c.tests.invariant.leads q style at _ _ _ (at_prog (ap (λ (bs : List Branch). first_true style (tests_of bs) (option_copied c.in-Some.branches.last)) item)
     (holds q style here c.branch-item.result.test.now (Conditions.kept_behind c.integers.result style c.branch-item.result.test.now c.in_ok-test.test.value c.deref.result.now c.deref.ensures same c.in_ok-test.ensures.read) _ _ _ _
-    (goes_done {i = Script c.branch-item.result.body.now} (at_prog (ap script (sym c.in_ok-body.ensures.cases)) (h q style (record { names = after.names; style_is = after.style_is }))))))) c.eval_value.ensures.runs
+    (goes_done {i = Script c.branch-item.result.body.now} (h q style (record { names = after.names; style_is = after.style_is })))))) c.eval_value.ensures.runs
 
 pub expressions::if_first-tests-preserved : goal.expressions::if_first-tests-preserved
 expressions::if_first-tests-preserved g t c =
@@ -1721,23 +1699,17 @@ expressions::if_first-returns-in_default-last-clause-runs g t c = λ q style at.
     c.tests.invariant.leads q style at _ _ _ (at_prog (ap (λ (bs : List Branch). first_true style (tests_of bs) (option_copied c.in-Some.branches.last)) none)
     (Conditions.last_none style _ (ap option_copied c.in_default-last.is) (ap (λ (x : List ℕ). Completed (ok x)) c.empty.ensures)))
 
-pub expressions::if_first-returns-in_err-body-2-clause-runs : goal.expressions::if_first-returns-in_err-body-2-clause-runs
-expressions::if_first-returns-in_err-body-2-clause-runs g t c =
-    let p = err_from_is_err_and c.from_residual-in_err-body-2.result c.from_residual-in_err-body-2.ensures.1 in
-    memory_err c.from_residual-in_err-body-2.result p.0 _ _ p.1 p.2
-    (λ q style at. c.tests.invariant.leads q style at _ _ _ stopped)
-
 pub expressions::if_first-returns-clause-runs : goal.expressions::if_first-returns-clause-runs
 expressions::if_first-returns-clause-runs g t c =
     let none = none_on c.deref-branch-items.result.now c.tests.branch-index c.tests-test.false in
     IfRan-more c.eval_value-2.result
-    (EndsAt (ways g.O.Outside.goes g.O.Outside.loses) c.tests.tree c.tests.outside c.args.place (λ style. script c.in_ok-body-2.body) c.eval_value-2.new.tree c.eval_value-2.new.outside)
+    (EndsAt (ways g.O.Outside.goes g.O.Outside.loses) c.tests.tree c.tests.outside c.args.place (λ style. script c.in-Some-last.last.now) c.eval_value-2.new.tree c.eval_value-2.new.outside)
     (EndsFrom (ways g.O.Outside.goes g.O.Outside.loses) c.args.tree.now c.args.outside.now c.args.place (λ style. if_first style c.args.args.now) c.eval_value-2.new.tree c.eval_value-2.new.outside)
     (λ e h q style at.
     let here = still_at c.args.tree.now c.tests.tree c.args.place q style c.tests.invariant.here at in
     c.tests.invariant.leads q style at _ _ _ (at_prog (ap (λ (bs : List Branch). first_true style (tests_of bs) (option_copied c.in-Some.branches.last)) none)
     (Conditions.last_runs style _ c.in-Some-last.last.now (ap option_copied c.in-Some-last.is)
-    (at_prog (ap script (sym c.in_ok-body-2.ensures.cases)) (h q style (record { names = here.names; style_is = here.style_is })))))) c.eval_value-2.ensures.runs
+    (h q style (record { names = here.names; style_is = here.style_is }))))) c.eval_value-2.ensures.runs
 
 -- turns
 
@@ -1799,30 +1771,22 @@ expressions::while_loop-returns-in_err-test-clause-runs g t c =
     (Conditions.test_misread style (get_or c.args.args.now 0 []) _ e (Conditions.misread_as c.integers.result style c.test-item.result (get_or c.args.args.now 0 []) e (c.integers.ensures ∙ at.style_is) test h)))
     (λ q style at. stopped)
 
-pub expressions::while_loop-returns-in_err-body-clause-runs : goal.expressions::while_loop-returns-in_err-body-clause-runs
-expressions::while_loop-returns-in_err-body-clause-runs g t c =
-    let p = err_from_is_err_and c.from_residual-in_err-body.result c.from_residual-in_err-body.ensures.1 in
-    memory_err c.from_residual-in_err-body.result p.0 _ _ p.1 p.2
-    (λ q style at. stopped)
-
 pub expressions::while_loop-turns-init : goal.expressions::while_loop-turns-init
-expressions::while_loop-turns-init g t c =
-    let more = c.in-len2.len_at_least in
-    record {
-      leads = λ q style at V z r run. Looping.while_begins style c.args.args.now c.in-len2.len_at_least c.in-len2.len_below run;
-      body = c.in_ok-body.ensures.cases ∙ Looping.item_at c.args.args.now 1 c.body-item.result (omega (arith, more)) c.body-item.is;
-      here = here-refl c.args.tree.now c.args.place;
-      keeps = keeps-refl _ _;
-    }
+expressions::while_loop-turns-init g t c = record {
+  leads = λ q style at V z r run. Looping.while_begins style c.args.args.now c.in-len2.len_at_least c.in-len2.len_below run;
+  here = here-refl c.args.tree.now c.args.place;
+  keeps = keeps-refl _ _;
+}
 
 pub expressions::while_loop-returns-in_err-turn-clause-runs : goal.expressions::while_loop-returns-in_err-turn-clause-runs
 expressions::while_loop-returns-in_err-turn-clause-runs g t c =
     let p = err_from_is_err_and c.from_residual-in_err-turn.result c.from_residual-in_err-turn.ensures.1 in
     let more = c.in-len2.len_at_least in
     let test = Looping.item_at c.args.args.now 0 c.test-item.result (omega (arith, more)) c.test-item.is in
+    let body = Looping.item_at c.args.args.now 1 c.body-item.result (omega (arith, more)) c.body-item.is in
     ran_err c.from_residual-in_err-turn.result c.in_err-turn.field-0.0 p.0 _ _ _ p.1 p.2 c.in_err-turn.ensures.runs
     (λ e h q style at. c.turns.invariant.leads q style at _ _ _
-    (at_prog (ap (λ (body : List ℕ). turn_then style (get_or c.args.args.now 0 []) body (go (While (get_or c.args.args.now 0 []) (get_or c.args.args.now 1 [])) done)) (sym c.turns.invariant.body))
+    (at_prog (ap (λ (body : List ℕ). turn_then style (get_or c.args.args.now 0 []) body (go (While (get_or c.args.args.now 0 []) (get_or c.args.args.now 1 [])) done)) (sym body))
     (h q style (still_at c.args.tree.now c.turns.tree c.args.place q style c.turns.invariant.here at) (get_or c.args.args.now 0 [])
     (Conditions.kept_as_behind c.integers.result style c.test-item.result (get_or c.args.args.now 0 []) c.in_ok-test.test.value c.deref.result.now c.deref.ensures (c.integers.ensures ∙ at.style_is) test c.in_ok-test.ensures.read) _)))
 
@@ -1830,9 +1794,10 @@ pub expressions::while_loop-returns-then-not-branch-clause-runs : goal.expressio
 expressions::while_loop-returns-then-not-branch-clause-runs g t c = λ q style at.
     let more = c.in-len2.len_at_least in
     let test = Looping.item_at c.args.args.now 0 c.test-item.result (omega (arith, more)) c.test-item.is in
-    let over = subst (TurnGoes (ways g.O.Outside.goes g.O.Outside.loses) c.turns.tree c.turns.outside c.args.place c.deref.result.now c.turns.body c.turn.new.tree c.turn.new.outside) c.if-not-branch.true c.in_ok-turn.ensures.runs in
+    let body = Looping.item_at c.args.args.now 1 c.body-item.result (omega (arith, more)) c.body-item.is in
+    let over = subst (TurnGoes (ways g.O.Outside.goes g.O.Outside.loses) c.turns.tree c.turns.outside c.args.place c.deref.result.now c.body-item.result c.turn.new.tree c.turn.new.outside) c.if-not-branch.true c.in_ok-turn.ensures.runs in
     c.turns.invariant.leads q style at _ _ _
-    (at_prog (ap (λ (body : List ℕ). turn_then style (get_or c.args.args.now 0 []) body (go (While (get_or c.args.args.now 0 []) (get_or c.args.args.now 1 [])) done)) (sym c.turns.invariant.body))
+    (at_prog (ap (λ (body : List ℕ). turn_then style (get_or c.args.args.now 0 []) body (go (While (get_or c.args.args.now 0 []) (get_or c.args.args.now 1 [])) done)) (sym body))
     (at_reply (ap (λ (x : List ℕ). Completed (ok x)) c.empty.ensures)
     (over q style (still_at c.args.tree.now c.turns.tree c.args.place q style c.turns.invariant.here at) (get_or c.args.args.now 0 [])
     (Conditions.kept_as_behind c.integers.result style c.test-item.result (get_or c.args.args.now 0 []) c.in_ok-test.test.value c.deref.result.now c.deref.ensures (c.integers.ensures ∙ at.style_is) test c.in_ok-test.ensures.read) _)))
@@ -1841,14 +1806,14 @@ pub expressions::while_loop-turns-preserved : goal.expressions::while_loop-turns
 expressions::while_loop-turns-preserved g t c =
     let more = c.in-len2.len_at_least in
     let test = Looping.item_at c.args.args.now 0 c.test-item.result (omega (arith, more)) c.test-item.is in
-    let on = subst (TurnGoes (ways g.O.Outside.goes g.O.Outside.loses) c.turns.tree c.turns.outside c.args.place c.deref.result.now c.turns.body c.turn.new.tree c.turn.new.outside) c.if-not-branch.false c.in_ok-turn.ensures.runs in
+    let body = Looping.item_at c.args.args.now 1 c.body-item.result (omega (arith, more)) c.body-item.is in
+    let on = subst (TurnGoes (ways g.O.Outside.goes g.O.Outside.loses) c.turns.tree c.turns.outside c.args.place c.deref.result.now c.body-item.result c.turn.new.tree c.turn.new.outside) c.if-not-branch.false c.in_ok-turn.ensures.runs in
     record {
       leads = λ q style at V z r run. c.turns.invariant.leads q style at _ _ _
-          (at_prog (ap (λ (body : List ℕ). turn_then style (get_or c.args.args.now 0 []) body (go (While (get_or c.args.args.now 0 []) (get_or c.args.args.now 1 [])) done)) (sym c.turns.invariant.body))
+          (at_prog (ap (λ (body : List ℕ). turn_then style (get_or c.args.args.now 0 []) body (go (While (get_or c.args.args.now 0 []) (get_or c.args.args.now 1 [])) done)) (sym body))
           (on q style (still_at c.args.tree.now c.turns.tree c.args.place q style c.turns.invariant.here at) (get_or c.args.args.now 0 [])
           (Conditions.kept_as_behind c.integers.result style c.test-item.result (get_or c.args.args.now 0 []) c.in_ok-test.test.value c.deref.result.now c.deref.ensures (c.integers.ensures ∙ at.style_is) test c.in_ok-test.ensures.read) _ V z r
           (goes_done {i = While (get_or c.args.args.now 0 []) (get_or c.args.args.now 1 [])} run)));
-      body = c.turn.ensures.same ∙ c.turns.invariant.body;
       here = here-trans c.args.tree.now c.turns.tree c.turn.new.tree c.args.place c.turns.invariant.here c.in_ok-turn.ensures.here;
       keeps = keeps-trans c.turns.invariant.keeps c.turn.ensures.keeps;
     }
@@ -1867,19 +1832,13 @@ expressions::for_loop-returns-in_default-clause-runs g t c =
     ] in
     breaks c.wrong_args.result _ _ (λ e h q style at. Looping.for_other style c.args.args.now other h) (λ q style at. stopped) c.wrong_args.ensures
 
-pub expressions::for_loop-returns-in_err-start-clause-runs : goal.expressions::for_loop-returns-in_err-start-clause-runs
-expressions::for_loop-returns-in_err-start-clause-runs g t c =
-    let p = err_from_is_err_and c.from_residual.result c.from_residual.ensures.1 in
-    memory_err c.from_residual.result p.0 _ _ p.1 p.2
-    (λ q style at. stopped)
-
 pub expressions::for_loop-returns-in_err-on_ok-clause-runs : goal.expressions::for_loop-returns-in_err-on_ok-clause-runs
 expressions::for_loop-returns-in_err-on_ok-clause-runs g t c =
-    let p = err_from_is_err_and c.from_residual-in_err-on_ok.result c.from_residual-in_err-on_ok.ensures.1 in
+    let p = err_from_is_err_and c.from_residual.result c.from_residual.ensures.1 in
     let more = c.in-len4.len_at_least in
-    let start = c.in_ok-start.ensures.cases ∙ Looping.item_at c.args.args.now 0 c.start-item.result (omega (arith, more)) c.start-item.is in
-    ran_err c.from_residual-in_err-on_ok.result c.in_err-on_ok.field-0.0 p.0 _ _ _ p.1 p.2
-    (stays_of c.eval_value.result c.in_err-on_ok.field-0.0 (EndsAt (ways g.O.Outside.goes g.O.Outside.loses) c.args.tree.now c.args.outside.now c.args.place (λ style. script c.in_ok-start.start) c.eval_value.new.tree c.eval_value.new.outside)
+    let start = Looping.item_at c.args.args.now 0 c.start-item.result (omega (arith, more)) c.start-item.is in
+    ran_err c.from_residual.result c.in_err-on_ok.field-0.0 p.0 _ _ _ p.1 p.2
+    (stays_of c.eval_value.result c.in_err-on_ok.field-0.0 (EndsAt (ways g.O.Outside.goes g.O.Outside.loses) c.args.tree.now c.args.outside.now c.args.place (λ style. script c.start-item.result) c.eval_value.new.tree c.eval_value.new.outside)
     c.in_err-on_ok.ensures.same c.eval_value.ensures.runs c.in_err-on_ok.ensures.stays)
     (λ e h q style at. Looping.for_stays style c.args.args.now e c.in-len4.len_at_least c.in-len4.len_below h.1
     (at_prog (ap script (sym start)) (h.0 q style (record { names = at.names; style_is = at.style_is }))))
@@ -1888,9 +1847,9 @@ pub expressions::for_loop-returns-in_err-test-clause-runs : goal.expressions::fo
 expressions::for_loop-returns-in_err-test-clause-runs g t c =
     let p = err_from_is_err_and c.from_residual-in_err-test.result c.from_residual-in_err-test.ensures.1 in
     let more = c.in-len4.len_at_least in
-    let start = c.in_ok-start.ensures.cases ∙ Looping.item_at c.args.args.now 0 c.start-item.result (omega (arith, more)) c.start-item.is in
+    let start = Looping.item_at c.args.args.now 0 c.start-item.result (omega (arith, more)) c.start-item.is in
     let test = Looping.item_at c.args.args.now 1 c.test-item.result (omega (arith, more)) c.test-item.is in
-    let x = ran_text c.eval_value.result c.in_ok-on_ok.field-0 (EndsAt (ways g.O.Outside.goes g.O.Outside.loses) c.args.tree.now c.args.outside.now c.args.place (λ style. script c.in_ok-start.start) c.eval_value.new.tree c.eval_value.new.outside)
+    let x = ran_text c.eval_value.result c.in_ok-on_ok.field-0 (EndsAt (ways g.O.Outside.goes g.O.Outside.loses) c.args.tree.now c.args.outside.now c.args.place (λ style. script c.start-item.result) c.eval_value.new.tree c.eval_value.new.outside)
     c.in_ok-on_ok.ensures.text c.eval_value.ensures.runs in
     fails_err c.from_residual-in_err-test.result c.in_err-test.field-0.0 p.0 _ _ _ p.1 p.2 c.in_err-test.ensures.refused
     (λ e h q style at.
@@ -1901,40 +1860,16 @@ expressions::for_loop-returns-in_err-test-clause-runs g t c =
     (λ q style at. Looping.for_begins style c.args.args.now x.0 c.in_ok-on_ok.field-0 c.in-len4.len_at_least c.in-len4.len_below x.2 x.3
     (at_prog (ap script (sym start)) (x.1 q style (record { names = at.names; style_is = at.style_is }))) stopped)
 
-pub expressions::for_loop-returns-in_err-next-clause-runs : goal.expressions::for_loop-returns-in_err-next-clause-runs
-expressions::for_loop-returns-in_err-next-clause-runs g t c =
-    let more = c.in-len4.len_at_least in
-    let start = c.in_ok-start.ensures.cases ∙ Looping.item_at c.args.args.now 0 c.start-item.result (omega (arith, more)) c.start-item.is in
-    let x = ran_text c.eval_value.result c.in_ok-on_ok.field-0 (EndsAt (ways g.O.Outside.goes g.O.Outside.loses) c.args.tree.now c.args.outside.now c.args.place (λ style. script c.in_ok-start.start) c.eval_value.new.tree c.eval_value.new.outside)
-    c.in_ok-on_ok.ensures.text c.eval_value.ensures.runs in
-    let p = err_from_is_err_and c.from_residual-in_err-next.result c.from_residual-in_err-next.ensures.1 in
-    memory_err c.from_residual-in_err-next.result p.0 _ _ p.1 p.2
-    (λ q style at. Looping.for_begins style c.args.args.now x.0 c.in_ok-on_ok.field-0 c.in-len4.len_at_least c.in-len4.len_below x.2 x.3
-    (at_prog (ap script (sym start)) (x.1 q style (record { names = at.names; style_is = at.style_is }))) stopped)
-
-pub expressions::for_loop-returns-in_err-body-clause-runs : goal.expressions::for_loop-returns-in_err-body-clause-runs
-expressions::for_loop-returns-in_err-body-clause-runs g t c =
-    let more = c.in-len4.len_at_least in
-    let start = c.in_ok-start.ensures.cases ∙ Looping.item_at c.args.args.now 0 c.start-item.result (omega (arith, more)) c.start-item.is in
-    let x = ran_text c.eval_value.result c.in_ok-on_ok.field-0 (EndsAt (ways g.O.Outside.goes g.O.Outside.loses) c.args.tree.now c.args.outside.now c.args.place (λ style. script c.in_ok-start.start) c.eval_value.new.tree c.eval_value.new.outside)
-    c.in_ok-on_ok.ensures.text c.eval_value.ensures.runs in
-    let p = err_from_is_err_and c.from_residual-in_err-body.result c.from_residual-in_err-body.ensures.1 in
-    memory_err c.from_residual-in_err-body.result p.0 _ _ p.1 p.2
-    (λ q style at. Looping.for_begins style c.args.args.now x.0 c.in_ok-on_ok.field-0 c.in-len4.len_at_least c.in-len4.len_below x.2 x.3
-    (at_prog (ap script (sym start)) (x.1 q style (record { names = at.names; style_is = at.style_is }))) stopped)
-
 pub expressions::for_loop-turns-init : goal.expressions::for_loop-turns-init
 expressions::for_loop-turns-init g t c =
     let more = c.in-len4.len_at_least in
-    let start = c.in_ok-start.ensures.cases ∙ Looping.item_at c.args.args.now 0 c.start-item.result (omega (arith, more)) c.start-item.is in
-    let x = ran_text c.eval_value.result c.in_ok-on_ok.field-0 (EndsAt (ways g.O.Outside.goes g.O.Outside.loses) c.args.tree.now c.args.outside.now c.args.place (λ style. script c.in_ok-start.start) c.eval_value.new.tree c.eval_value.new.outside)
+    let start = Looping.item_at c.args.args.now 0 c.start-item.result (omega (arith, more)) c.start-item.is in
+    let x = ran_text c.eval_value.result c.in_ok-on_ok.field-0 (EndsAt (ways g.O.Outside.goes g.O.Outside.loses) c.args.tree.now c.args.outside.now c.args.place (λ style. script c.start-item.result) c.eval_value.new.tree c.eval_value.new.outside)
     c.in_ok-on_ok.ensures.text c.eval_value.ensures.runs in
     record {
       leads = λ q style at V z r run.
           Looping.for_begins style c.args.args.now x.0 c.in_ok-on_ok.field-0 c.in-len4.len_at_least c.in-len4.len_below x.2 x.3
           (at_prog (ap script (sym start)) (x.1 q style (record { names = at.names; style_is = at.style_is }))) run;
-      next = c.in_ok-next.ensures.cases ∙ Looping.item_at c.args.args.now 2 c.next-item.result (omega (arith, more)) c.next-item.is;
-      body = c.in_ok-body.ensures.cases ∙ Looping.item_at c.args.args.now 3 c.body-item.result (omega (arith, more)) c.body-item.is;
       here = here_text c.eval_value.result c.in_ok-on_ok.field-0 c.args.tree.now c.eval_value.new.tree c.args.place c.in_ok-on_ok.ensures.text c.eval_value.ensures.here;
       keeps = c.eval_value.ensures.keeps;
     }
@@ -1944,11 +1879,12 @@ expressions::for_loop-returns-in_err-turn-clause-runs g t c =
     let p = err_from_is_err_and c.from_residual-in_err-turn.result c.from_residual-in_err-turn.ensures.1 in
     let more = c.in-len4.len_at_least in
     let test = Looping.item_at c.args.args.now 1 c.test-item.result (omega (arith, more)) c.test-item.is in
+    let body = Looping.item_at c.args.args.now 3 c.body-item.result (omega (arith, more)) c.body-item.is in
     ran_err c.from_residual-in_err-turn.result c.in_err-turn.field-0.0 p.0 _ _ _ p.1 p.2 c.in_err-turn.ensures.runs
     (λ e h q style at.
     let first = still_at c.args.tree.now c.eval_value.new.tree c.args.place q style (here_text c.eval_value.result c.in_ok-on_ok.field-0 c.args.tree.now c.eval_value.new.tree c.args.place c.in_ok-on_ok.ensures.text c.eval_value.ensures.here) at in
     c.turns.invariant.leads q style at _ _ _
-    (at_prog (ap (λ (body : List ℕ). turn_then style (get_or c.args.args.now 1 []) body (next_then (get_or c.args.args.now 1 []) (get_or c.args.args.now 2 []) (get_or c.args.args.now 3 []))) (sym c.turns.invariant.body))
+    (at_prog (ap (λ (body : List ℕ). turn_then style (get_or c.args.args.now 1 []) body (next_then (get_or c.args.args.now 1 []) (get_or c.args.args.now 2 []) (get_or c.args.args.now 3 []))) (sym body))
     (h q style (still_at c.args.tree.now c.turns.tree c.args.place q style c.turns.invariant.here at) (get_or c.args.args.now 1 [])
     (Conditions.kept_as_behind c.integers.result style c.test-item.result (get_or c.args.args.now 1 []) c.in_ok-test.test.value c.deref.result.now c.deref.ensures (c.integers.ensures ∙ first.style_is) test c.in_ok-test.ensures.read) _)))
 
@@ -1959,10 +1895,11 @@ pub expressions::for_loop-returns-then-not-branch-clause-runs : goal.expressions
 expressions::for_loop-returns-then-not-branch-clause-runs g t c = λ q style at.
     let more = c.in-len4.len_at_least in
     let test = Looping.item_at c.args.args.now 1 c.test-item.result (omega (arith, more)) c.test-item.is in
-    let over = subst (TurnGoes (ways g.O.Outside.goes g.O.Outside.loses) c.turns.tree c.turns.outside c.args.place c.deref.result.now c.turns.body c.turn.new.tree c.turn.new.outside) c.if-not-branch.true c.in_ok-turn.ensures.runs in
+    let body = Looping.item_at c.args.args.now 3 c.body-item.result (omega (arith, more)) c.body-item.is in
+    let over = subst (TurnGoes (ways g.O.Outside.goes g.O.Outside.loses) c.turns.tree c.turns.outside c.args.place c.deref.result.now c.body-item.result c.turn.new.tree c.turn.new.outside) c.if-not-branch.true c.in_ok-turn.ensures.runs in
     let first = still_at c.args.tree.now c.eval_value.new.tree c.args.place q style (here_text c.eval_value.result c.in_ok-on_ok.field-0 c.args.tree.now c.eval_value.new.tree c.args.place c.in_ok-on_ok.ensures.text c.eval_value.ensures.here) at in
     c.turns.invariant.leads q style at _ _ _
-    (at_prog (ap (λ (body : List ℕ). turn_then style (get_or c.args.args.now 1 []) body (next_then (get_or c.args.args.now 1 []) (get_or c.args.args.now 2 []) (get_or c.args.args.now 3 []))) (sym c.turns.invariant.body))
+    (at_prog (ap (λ (body : List ℕ). turn_then style (get_or c.args.args.now 1 []) body (next_then (get_or c.args.args.now 1 []) (get_or c.args.args.now 2 []) (get_or c.args.args.now 3 []))) (sym body))
     (at_reply (ap (λ (x : List ℕ). Completed (ok x)) c.empty.ensures)
     (over q style (still_at c.args.tree.now c.turns.tree c.args.place q style c.turns.invariant.here at) (get_or c.args.args.now 1 [])
     (Conditions.kept_as_behind c.integers.result style c.test-item.result (get_or c.args.args.now 1 []) c.in_ok-test.test.value c.deref.result.now c.deref.ensures (c.integers.ensures ∙ first.style_is) test c.in_ok-test.ensures.read) _)))
@@ -1975,19 +1912,21 @@ expressions::for_loop-returns-in_err-turns_on-clause-runs g t c =
     let p = err_from_is_err_and c.from_residual-in_err-turns_on.result c.from_residual-in_err-turns_on.ensures.1 in
     let more = c.in-len4.len_at_least in
     let test = Looping.item_at c.args.args.now 1 c.test-item.result (omega (arith, more)) c.test-item.is in
-    let on = subst (TurnGoes (ways g.O.Outside.goes g.O.Outside.loses) c.turns.tree c.turns.outside c.args.place c.deref.result.now c.turns.body c.turn.new.tree c.turn.new.outside) c.if-not-branch.false c.in_ok-turn.ensures.runs in
+    let next = Looping.item_at c.args.args.now 2 c.next-item.result (omega (arith, more)) c.next-item.is in
+    let body = Looping.item_at c.args.args.now 3 c.body-item.result (omega (arith, more)) c.body-item.is in
+    let on = subst (TurnGoes (ways g.O.Outside.goes g.O.Outside.loses) c.turns.tree c.turns.outside c.args.place c.deref.result.now c.body-item.result c.turn.new.tree c.turn.new.outside) c.if-not-branch.false c.in_ok-turn.ensures.runs in
     ran_err c.from_residual-in_err-turns_on.result c.in_err-turns_on.field-0.0 p.0 _ _ _ p.1 p.2
     (Conditions.turned_err after_next c.eval_value-in-turns.result c.in_err-turns_on.field-0.0
-    (EndsAt (ways g.O.Outside.goes g.O.Outside.loses) c.turn.new.tree c.turn.new.outside c.args.place (λ style. script c.turns.next) c.eval_value-in-turns.new.tree c.eval_value-in-turns.new.outside) c.in_err-turns_on.ensures c.eval_value-in-turns.ensures.runs)
+    (EndsAt (ways g.O.Outside.goes g.O.Outside.loses) c.turn.new.tree c.turn.new.outside c.args.place (λ style. script c.next-item.result) c.eval_value-in-turns.new.tree c.eval_value-in-turns.new.outside) c.in_err-turns_on.ensures c.eval_value-in-turns.ensures.runs)
     (λ e h q style at.
     let first = still_at c.args.tree.now c.eval_value.new.tree c.args.place q style (here_text c.eval_value.result c.in_ok-on_ok.field-0 c.args.tree.now c.eval_value.new.tree c.args.place c.in_ok-on_ok.ensures.text c.eval_value.ensures.here) at in
     let here = still_at c.args.tree.now c.turns.tree c.args.place q style c.turns.invariant.here at in
     let after = still_at c.turns.tree c.turn.new.tree c.args.place q style c.in_ok-turn.ensures.here here in
     c.turns.invariant.leads q style at _ _ _
-    (at_prog (ap (λ (body : List ℕ). turn_then style (get_or c.args.args.now 1 []) body (next_then (get_or c.args.args.now 1 []) (get_or c.args.args.now 2 []) (get_or c.args.args.now 3 []))) (sym c.turns.invariant.body))
+    (at_prog (ap (λ (body : List ℕ). turn_then style (get_or c.args.args.now 1 []) body (next_then (get_or c.args.args.now 1 []) (get_or c.args.args.now 2 []) (get_or c.args.args.now 3 []))) (sym body))
     (on q style here (get_or c.args.args.now 1 [])
     (Conditions.kept_as_behind c.integers.result style c.test-item.result (get_or c.args.args.now 1 []) c.in_ok-test.test.value c.deref.result.now c.deref.ensures (c.integers.ensures ∙ first.style_is) test c.in_ok-test.ensures.read) _ _ _ _
-    (Conditions.leaves_after style after_next (get_or c.args.args.now 2 []) _ e h.1 (at_prog (ap script (sym c.turns.invariant.next)) (h.0 q style (record { names = after.names; style_is = after.style_is })))))))
+    (Conditions.leaves_after style after_next (get_or c.args.args.now 2 []) _ e h.1 (at_prog (ap script (sym next)) (h.0 q style (record { names = after.names; style_is = after.style_is })))))))
 
 pub expressions::for_loop-returns-in_err-turns_on-clause-keeps : goal.expressions::for_loop-returns-in_err-turns_on-clause-keeps
 expressions::for_loop-returns-in_err-turns_on-clause-keeps g t c = keeps-trans (keeps-trans c.turns.invariant.keeps c.turn.ensures.keeps) c.eval_value-in-turns.ensures.keeps
@@ -1996,17 +1935,19 @@ pub expressions::for_loop-returns-then-not-branch-2-clause-runs : goal.expressio
 expressions::for_loop-returns-then-not-branch-2-clause-runs g t c = λ q style at.
     let more = c.in-len4.len_at_least in
     let test = Looping.item_at c.args.args.now 1 c.test-item.result (omega (arith, more)) c.test-item.is in
-    let on = subst (TurnGoes (ways g.O.Outside.goes g.O.Outside.loses) c.turns.tree c.turns.outside c.args.place c.deref.result.now c.turns.body c.turn.new.tree c.turn.new.outside) c.if-not-branch.false c.in_ok-turn.ensures.runs in
+    let next = Looping.item_at c.args.args.now 2 c.next-item.result (omega (arith, more)) c.next-item.is in
+    let body = Looping.item_at c.args.args.now 3 c.body-item.result (omega (arith, more)) c.body-item.is in
+    let on = subst (TurnGoes (ways g.O.Outside.goes g.O.Outside.loses) c.turns.tree c.turns.outside c.args.place c.deref.result.now c.body-item.result c.turn.new.tree c.turn.new.outside) c.if-not-branch.false c.in_ok-turn.ensures.runs in
     let x = Conditions.turned_ok after_next c.eval_value-in-turns.result c.in_ok-turns_on.field-0 false
-    (EndsAt (ways g.O.Outside.goes g.O.Outside.loses) c.turn.new.tree c.turn.new.outside c.args.place (λ style. script c.turns.next) c.eval_value-in-turns.new.tree c.eval_value-in-turns.new.outside) c.in_ok-turns_on.ensures c.if-not-branch-2.true c.eval_value-in-turns.ensures.runs in
+    (EndsAt (ways g.O.Outside.goes g.O.Outside.loses) c.turn.new.tree c.turn.new.outside c.args.place (λ style. script c.next-item.result) c.eval_value-in-turns.new.tree c.eval_value-in-turns.new.outside) c.in_ok-turns_on.ensures c.if-not-branch-2.true c.eval_value-in-turns.ensures.runs in
     let first = still_at c.args.tree.now c.eval_value.new.tree c.args.place q style (here_text c.eval_value.result c.in_ok-on_ok.field-0 c.args.tree.now c.eval_value.new.tree c.args.place c.in_ok-on_ok.ensures.text c.eval_value.ensures.here) at in
     let here = still_at c.args.tree.now c.turns.tree c.args.place q style c.turns.invariant.here at in
     let after = still_at c.turns.tree c.turn.new.tree c.args.place q style c.in_ok-turn.ensures.here here in
     c.turns.invariant.leads q style at _ _ _
-    (at_prog (ap (λ (body : List ℕ). turn_then style (get_or c.args.args.now 1 []) body (next_then (get_or c.args.args.now 1 []) (get_or c.args.args.now 2 []) (get_or c.args.args.now 3 []))) (sym c.turns.invariant.body))
+    (at_prog (ap (λ (body : List ℕ). turn_then style (get_or c.args.args.now 1 []) body (next_then (get_or c.args.args.now 1 []) (get_or c.args.args.now 2 []) (get_or c.args.args.now 3 []))) (sym body))
     (on q style here (get_or c.args.args.now 1 [])
     (Conditions.kept_as_behind c.integers.result style c.test-item.result (get_or c.args.args.now 1 []) c.in_ok-test.test.value c.deref.result.now c.deref.ensures (c.integers.ensures ∙ first.style_is) test c.in_ok-test.ensures.read) _ _ _ _
-    (goes_on {i = Script (get_or c.args.args.now 2 [])} (at_prog (ap script (sym c.turns.invariant.next)) (x.1 q style (record { names = after.names; style_is = after.style_is })))
+    (goes_on {i = Script (get_or c.args.args.now 2 [])} (at_prog (ap script (sym next)) (x.1 q style (record { names = after.names; style_is = after.style_is })))
     (at_prog (x.2 (go (For (get_or c.args.args.now 1 []) (get_or c.args.args.now 2 []) (get_or c.args.args.now 3 [])) done)) (at_reply (ap (λ (y : List ℕ). Completed (ok y)) c.empty-then-not-branch-2.ensures) completed)))))
 
 pub expressions::for_loop-returns-then-not-branch-2-clause-keeps : goal.expressions::for_loop-returns-then-not-branch-2-clause-keeps
@@ -2016,23 +1957,23 @@ pub expressions::for_loop-turns-preserved : goal.expressions::for_loop-turns-pre
 expressions::for_loop-turns-preserved g t c =
     let more = c.in-len4.len_at_least in
     let test = Looping.item_at c.args.args.now 1 c.test-item.result (omega (arith, more)) c.test-item.is in
-    let on = subst (TurnGoes (ways g.O.Outside.goes g.O.Outside.loses) c.turns.tree c.turns.outside c.args.place c.deref.result.now c.turns.body c.turn.new.tree c.turn.new.outside) c.if-not-branch.false c.in_ok-turn.ensures.runs in
+    let next = Looping.item_at c.args.args.now 2 c.next-item.result (omega (arith, more)) c.next-item.is in
+    let body = Looping.item_at c.args.args.now 3 c.body-item.result (omega (arith, more)) c.body-item.is in
+    let on = subst (TurnGoes (ways g.O.Outside.goes g.O.Outside.loses) c.turns.tree c.turns.outside c.args.place c.deref.result.now c.body-item.result c.turn.new.tree c.turn.new.outside) c.if-not-branch.false c.in_ok-turn.ensures.runs in
     let x = Conditions.turned_ok after_next c.eval_value-in-turns.result c.in_ok-turns_on.field-0 true
-    (EndsAt (ways g.O.Outside.goes g.O.Outside.loses) c.turn.new.tree c.turn.new.outside c.args.place (λ style. script c.turns.next) c.eval_value-in-turns.new.tree c.eval_value-in-turns.new.outside) c.in_ok-turns_on.ensures c.if-not-branch-2.false c.eval_value-in-turns.ensures.runs in
+    (EndsAt (ways g.O.Outside.goes g.O.Outside.loses) c.turn.new.tree c.turn.new.outside c.args.place (λ style. script c.next-item.result) c.eval_value-in-turns.new.tree c.eval_value-in-turns.new.outside) c.in_ok-turns_on.ensures c.if-not-branch-2.false c.eval_value-in-turns.ensures.runs in
     record {
       leads = λ q style at V z r run.
           let first = still_at c.args.tree.now c.eval_value.new.tree c.args.place q style (here_text c.eval_value.result c.in_ok-on_ok.field-0 c.args.tree.now c.eval_value.new.tree c.args.place c.in_ok-on_ok.ensures.text c.eval_value.ensures.here) at in
           let here = still_at c.args.tree.now c.turns.tree c.args.place q style c.turns.invariant.here at in
           let after = still_at c.turns.tree c.turn.new.tree c.args.place q style c.in_ok-turn.ensures.here here in
           c.turns.invariant.leads q style at _ _ _
-          (at_prog (ap (λ (body : List ℕ). turn_then style (get_or c.args.args.now 1 []) body (next_then (get_or c.args.args.now 1 []) (get_or c.args.args.now 2 []) (get_or c.args.args.now 3 []))) (sym c.turns.invariant.body))
+          (at_prog (ap (λ (body : List ℕ). turn_then style (get_or c.args.args.now 1 []) body (next_then (get_or c.args.args.now 1 []) (get_or c.args.args.now 2 []) (get_or c.args.args.now 3 []))) (sym body))
           (on q style here (get_or c.args.args.now 1 [])
           (Conditions.kept_as_behind c.integers.result style c.test-item.result (get_or c.args.args.now 1 []) c.in_ok-test.test.value c.deref.result.now c.deref.ensures (c.integers.ensures ∙ first.style_is) test c.in_ok-test.ensures.read) _ V z r
-          (goes_on {i = Script (get_or c.args.args.now 2 [])} (at_prog (ap script (sym c.turns.invariant.next)) (x.1 q style (record { names = after.names; style_is = after.style_is })))
+          (goes_on {i = Script (get_or c.args.args.now 2 [])} (at_prog (ap script (sym next)) (x.1 q style (record { names = after.names; style_is = after.style_is })))
           (at_prog (x.2 (go (For (get_or c.args.args.now 1 []) (get_or c.args.args.now 2 []) (get_or c.args.args.now 3 [])) done))
           (goes_done {i = For (get_or c.args.args.now 1 []) (get_or c.args.args.now 2 []) (get_or c.args.args.now 3 [])} run)))));
-      next = c.eval_value-in-turns.ensures.same ∙ c.turns.invariant.next;
-      body = c.turn.ensures.same ∙ c.turns.invariant.body;
       here = here-trans c.args.tree.now c.turn.new.tree c.eval_value-in-turns.new.tree c.args.place (here-trans c.args.tree.now c.turns.tree c.turn.new.tree c.args.place c.turns.invariant.here c.in_ok-turn.ensures.here) (here_in c.eval_value-in-turns.result c.in_ok-turns_on.ensures.0 (IsHere c.turn.new.tree c.eval_value-in-turns.new.tree c.args.place) c.in_ok-turns_on.ensures.1 c.eval_value-in-turns.ensures.here);
       keeps = keeps-trans (keeps-trans c.turns.invariant.keeps c.turn.ensures.keeps) c.eval_value-in-turns.ensures.keeps;
     }
@@ -2043,15 +1984,9 @@ expressions::for_loop-returns-clause-runs g t c = λ q style at. c.turns.invaria
 
 -- # Loops over lists, and scripts at another level
 
-pub loops::walk_through-returns-in_err-script-clause-runs : goal.loops::walk_through-returns-in_err-script-clause-runs
-loops::walk_through-returns-in_err-script-clause-runs g t c =
-    let p = err_from_is_err_and c.from_residual.result c.from_residual.ensures.1 in
-    memory_err c.from_residual.result p.0 _ _ p.1 p.2 (λ q style at. stopped)
-
 pub loops::walk_through-turns-init : goal.loops::walk_through-turns-init
 loops::walk_through-turns-init g t c = record {
   leads = λ q style at V z r run. run;
-  script = c.in_ok-script.ensures.cases;
   here = here-refl c.args.tree.now c.args.place;
   keeps = keeps-refl _ _;
 }
@@ -2065,8 +2000,8 @@ loops::walk_through-returns-then-is_over-clause-runs g t c = λ q style at.
 pub loops::walk_through-returns-in_err-charge-clause-runs : goal.loops::walk_through-returns-in_err-charge-clause-runs
 loops::walk_through-returns-in_err-charge-clause-runs g t c =
     let more = sym c.is_over.ensures ∙ c.if-is_over.false in
-    let p = err_from_is_err_and c.from_residual-in_err-charge.result c.from_residual-in_err-charge.ensures.1 in
-    says_err c.from_residual-in_err-charge.result c.in_err-charge.field-0.0 p.0 _ _ _ p.1 p.2 c.in_err-charge.ensures.refused
+    let p = err_from_is_err_and c.from_residual.result c.from_residual.ensures.1 in
+    says_err c.from_residual.result c.in_err-charge.field-0.0 p.0 _ _ _ p.1 p.2 c.in_err-charge.ensures.refused
     (λ e h q style at. c.turns.invariant.leads q style at _ _ _
     (Walking.turn_stops style (walks_at c.turns.turns c.args.walks.now) (done (ok [])) (body_then c.args.body.now) more (h q (still_at c.args.tree.now c.turns.tree c.args.place q style c.turns.invariant.here at).names)))
 
@@ -2092,7 +2027,7 @@ loops::walk_through-returns-in_err-goes_on-clause-runs g t c =
     let p = err_from_is_err_and c.from_residual-in_err-goes_on.result c.from_residual-in_err-goes_on.ensures.1 in
     ran_err c.from_residual-in_err-goes_on.result c.in_err-goes_on.field-0.0 p.0 _ _ _ p.1 p.2
     (Conditions.turned_err after_body c.eval_value.result c.in_err-goes_on.field-0.0
-    (EndsAt (ways g.O.Outside.goes g.O.Outside.loses) c.set_walks.new.tree c.charge.new.outside c.args.place (λ style. script c.turns.script) c.eval_value.new.tree c.eval_value.new.outside) c.in_err-goes_on.ensures c.eval_value.ensures.runs)
+    (EndsAt (ways g.O.Outside.goes g.O.Outside.loses) c.set_walks.new.tree c.charge.new.outside c.args.place (λ style. script c.args.body.now) c.eval_value.new.tree c.eval_value.new.outside) c.in_err-goes_on.ensures c.eval_value.ensures.runs)
     (λ e h q style at.
     let here = still_at c.args.tree.now c.turns.tree c.args.place q style c.turns.invariant.here at in
     let after = still_at _ _ c.args.place q style (level_here _ _ c.args.place c.charge.ensures.level) here in
@@ -2101,13 +2036,13 @@ loops::walk_through-returns-in_err-goes_on-clause-runs g t c =
     c.turns.invariant.leads q style at _ _ _
     (Walking.turn_begins style (walks_at c.turns.turns c.args.walks.now) (done (ok [])) (body_then c.args.body.now) more counts
     (Walking.walks_set (walks_at c.turns.turns c.args.walks.now) (tree_of c.charge.new.tree) (tree_of c.set_walks.new.tree) q (λ k V r d. c.in_ok-set_walks.ensures.set q after.names k V r d))
-    (Conditions.leaves_after style after_body c.args.body.now _ e h.1 (at_prog (ap script (sym c.turns.invariant.script)) (h.0 q style (record { names = set.names; style_is = set.style_is }))))))
+    (Conditions.leaves_after style after_body c.args.body.now _ e h.1 (h.0 q style (record { names = set.names; style_is = set.style_is })))))
 
 pub loops::walk_through-returns-then-not-branch-clause-runs : goal.loops::walk_through-returns-then-not-branch-clause-runs
 loops::walk_through-returns-then-not-branch-clause-runs g t c = λ q style at.
     let more = sym c.is_over.ensures ∙ c.if-is_over.false in
     let x = Conditions.turned_ok after_body c.eval_value.result c.in_ok-goes_on.field-0 false
-    (EndsAt (ways g.O.Outside.goes g.O.Outside.loses) c.set_walks.new.tree c.charge.new.outside c.args.place (λ style. script c.turns.script) c.eval_value.new.tree c.eval_value.new.outside) c.in_ok-goes_on.ensures c.if-not-branch.true c.eval_value.ensures.runs in
+    (EndsAt (ways g.O.Outside.goes g.O.Outside.loses) c.set_walks.new.tree c.charge.new.outside c.args.place (λ style. script c.args.body.now) c.eval_value.new.tree c.eval_value.new.outside) c.in_ok-goes_on.ensures c.if-not-branch.true c.eval_value.ensures.runs in
     let here = still_at c.args.tree.now c.turns.tree c.args.place q style c.turns.invariant.here at in
     let after = still_at _ _ c.args.place q style (level_here _ _ c.args.place c.charge.ensures.level) here in
     let set = still_at _ _ c.args.place q style (level_here _ _ c.args.place c.set_walks.ensures.level) after in
@@ -2115,14 +2050,14 @@ loops::walk_through-returns-then-not-branch-clause-runs g t c = λ q style at.
     c.turns.invariant.leads q style at _ _ _
     (Walking.turn_begins style (walks_at c.turns.turns c.args.walks.now) (done (ok [])) (body_then c.args.body.now) more counts
     (Walking.walks_set (walks_at c.turns.turns c.args.walks.now) (tree_of c.charge.new.tree) (tree_of c.set_walks.new.tree) q (λ k V r d. c.in_ok-set_walks.ensures.set q after.names k V r d))
-    (goes_on {i = Script c.args.body.now} (at_prog (ap script (sym c.turns.invariant.script)) (x.1 q style (record { names = set.names; style_is = set.style_is })))
+    (goes_on {i = Script c.args.body.now} (x.1 q style (record { names = set.names; style_is = set.style_is }))
     (at_prog (x.2 (go (Foreach (map passed (walks_at c.turns.turns c.args.walks.now)) c.args.body.now) done)) (at_reply (ap (λ (y : List ℕ). Completed (ok y)) c.empty-then-not-branch.ensures) completed))))
 
 pub loops::walk_through-turns-preserved : goal.loops::walk_through-turns-preserved
 loops::walk_through-turns-preserved g t c =
     let more = sym c.is_over.ensures ∙ c.if-is_over.false in
     let x = Conditions.turned_ok after_body c.eval_value.result c.in_ok-goes_on.field-0 true
-    (EndsAt (ways g.O.Outside.goes g.O.Outside.loses) c.set_walks.new.tree c.charge.new.outside c.args.place (λ style. script c.turns.script) c.eval_value.new.tree c.eval_value.new.outside) c.in_ok-goes_on.ensures c.if-not-branch.false c.eval_value.ensures.runs in
+    (EndsAt (ways g.O.Outside.goes g.O.Outside.loses) c.set_walks.new.tree c.charge.new.outside c.args.place (λ style. script c.args.body.now) c.eval_value.new.tree c.eval_value.new.outside) c.in_ok-goes_on.ensures c.if-not-branch.false c.eval_value.ensures.runs in
     record {
       leads = λ q style at V z r run.
           let here = still_at c.args.tree.now c.turns.tree c.args.place q style c.turns.invariant.here at in
@@ -2132,11 +2067,10 @@ loops::walk_through-turns-preserved g t c =
           c.turns.invariant.leads q style at _ _ _
           (Walking.turn_begins style (walks_at c.turns.turns c.args.walks.now) (done (ok [])) (body_then c.args.body.now) more counts
           (Walking.walks_set (walks_at c.turns.turns c.args.walks.now) (tree_of c.charge.new.tree) (tree_of c.set_walks.new.tree) q (λ k V r d. c.in_ok-set_walks.ensures.set q after.names k V r d))
-          (goes_on {i = Script c.args.body.now} (at_prog (ap script (sym c.turns.invariant.script)) (x.1 q style (record { names = set.names; style_is = set.style_is })))
+          (goes_on {i = Script c.args.body.now} (x.1 q style (record { names = set.names; style_is = set.style_is }))
           (at_prog (x.2 (go (Foreach (map passed (walks_at c.turns.turns c.args.walks.now)) c.args.body.now) done))
           (goes_done {i = Foreach (map passed (walks_at c.turns.turns c.args.walks.now)) c.args.body.now}
           (at_prog (ap (λ (ws : List Left). foreach_turns ws c.args.body.now) (Walking.walks_next c.turns.turns c.args.walks.now)) run)))));
-      script = c.eval_value.ensures.same ∙ c.turns.invariant.script;
       here = here-trans c.args.tree.now c.set_walks.new.tree c.eval_value.new.tree c.args.place (here-trans c.args.tree.now c.charge.new.tree c.set_walks.new.tree c.args.place (here-trans c.args.tree.now c.turns.tree c.charge.new.tree c.args.place c.turns.invariant.here (level_here c.turns.tree c.charge.new.tree c.args.place c.charge.ensures.level)) (level_here c.charge.new.tree c.set_walks.new.tree c.args.place c.set_walks.ensures.level)) (here_in c.eval_value.result c.in_ok-goes_on.ensures.0 (IsHere c.set_walks.new.tree c.eval_value.new.tree c.args.place) c.in_ok-goes_on.ensures.1 c.eval_value.ensures.here);
       keeps = keeps-trans (keeps-trans (keeps-trans c.turns.invariant.keeps (charged_keeps c.charge.ensures.level c.charge.ensures.left)) (level_keeps _ c.set_walks.ensures.level)) c.eval_value.ensures.keeps;
     }
@@ -2198,11 +2132,6 @@ collecting::lmap-returns-in_err-walks-clause-runs g t c =
     fails_err c.from_residual.result c.in_err-walks.field-0.0 p.0 _ _ _ p.1 p.2 c.in_err-walks.ensures.refused
     (λ e h q style at. Walking.loop_misread style lmap_form (λ walks body. go (Lmap walks body []) done) c.args.args.now c.in-Some.words.now c.in-Some.body.now e c.in-Some.ensures h) (λ q style at. stopped)
 
-pub collecting::lmap-returns-in_err-body-clause-runs : goal.collecting::lmap-returns-in_err-body-clause-runs
-collecting::lmap-returns-in_err-body-clause-runs g t c =
-    let p = err_from_is_err_and c.from_residual-in_err-body.result c.from_residual-in_err-body.ensures.1 in
-    memory_err c.from_residual-in_err-body.result p.0 _ _ p.1 p.2 (λ q style at. stopped)
-
 pub collecting::lmap-returns-in_err-made-clause-runs : goal.collecting::lmap-returns-in_err-made-clause-runs
 collecting::lmap-returns-in_err-made-clause-runs g t c =
     let p = err_from_is_err_and c.from_residual-in_err-made.result c.from_residual-in_err-made.ensures.1 in
@@ -2211,8 +2140,7 @@ collecting::lmap-returns-in_err-made-clause-runs g t c =
 pub collecting::lmap-turns-init : goal.collecting::lmap-turns-init
 collecting::lmap-turns-init g t c = record {
   leads = λ q style at V z r run. Walking.lmap_begins style c.args.args.now c.in-Some.words.now c.in-Some.body.now c.in_ok-walks.walks.items c.in-Some.ensures c.in_ok-walks.ensures.read
-      (at_prog ((λ i. lmap_turns (walks_at 0 c.in_ok-walks.walks.items) (sym c.in_ok-body.ensures.cases i) (sym c.in_ok-made.ensures i))) run);
-  body = refl;
+      (at_prog ((λ i. lmap_turns (walks_at 0 c.in_ok-walks.walks.items) c.in-Some.body.now (sym c.in_ok-made.ensures i))) run);
   here = here-refl c.args.tree.now c.args.place;
   keeps = keeps-refl _ _;
 }
@@ -2222,7 +2150,7 @@ collecting::lmap-returns-then-is_over-clause-runs g t c =
     let over = ap (λ (ws : List Walk). is_over (walks_at c.turns.turns ws)) (sym c.as_slice.ensures.value) ∙ sym c.is_over.ensures ∙ c.if-is_over.true in
     ran c.collected.result (EndsBy (gives (written_list c.turns.made)))
     (EndsFrom (ways g.O.Outside.goes g.O.Outside.loses) c.args.tree.now c.args.outside.now c.args.place (λ style. lmap c.args.args.now) c.turns.tree c.turns.outside)
-    (λ e h q style at. c.turns.invariant.leads q style at _ _ _ (Walking.turn_over style (walks_at c.turns.turns c.in_ok-walks.walks.items) (gives (written_list c.turns.made)) (result_then c.in_ok-body.body c.turns.made) over (Conditions.ends_by style (gives (written_list c.turns.made)) e h)))
+    (λ e h q style at. c.turns.invariant.leads q style at _ _ _ (Walking.turn_over style (walks_at c.turns.turns c.in_ok-walks.walks.items) (gives (written_list c.turns.made)) (result_then c.in-Some.body.now c.turns.made) over (Conditions.ends_by style (gives (written_list c.turns.made)) e h)))
     (λ q style at. c.turns.invariant.leads q style at _ _ _ stopped) c.collected.ensures
 
 pub collecting::lmap-returns-in_err-charge-clause-runs : goal.collecting::lmap-returns-in_err-charge-clause-runs
@@ -2231,7 +2159,7 @@ collecting::lmap-returns-in_err-charge-clause-runs g t c =
     let p = err_from_is_err_and c.from_residual-in_err-charge.result c.from_residual-in_err-charge.ensures.1 in
     says_err c.from_residual-in_err-charge.result c.in_err-charge.field-0.0 p.0 _ _ _ p.1 p.2 c.in_err-charge.ensures.refused
     (λ e h q style at. c.turns.invariant.leads q style at _ _ _
-    (Walking.turn_stops style (walks_at c.turns.turns c.in_ok-walks.walks.items) (gives (written_list c.turns.made)) (result_then c.in_ok-body.body c.turns.made) more (h q (still_at c.args.tree.now c.turns.tree c.args.place q style c.turns.invariant.here at).names)))
+    (Walking.turn_stops style (walks_at c.turns.turns c.in_ok-walks.walks.items) (gives (written_list c.turns.made)) (result_then c.in-Some.body.now c.turns.made) more (h q (still_at c.args.tree.now c.turns.tree c.args.place q style c.turns.invariant.here at).names)))
 
 pub collecting::lmap-returns-in_err-set_walks-clause-runs : goal.collecting::lmap-returns-in_err-set_walks-clause-runs
 collecting::lmap-returns-in_err-set_walks-clause-runs g t c =
@@ -2243,12 +2171,12 @@ collecting::lmap-returns-in_err-set_walks-clause-runs g t c =
     let after = still_at _ _ c.args.place q style (level_here _ _ c.args.place c.charge.ensures.level) here in
     let counts = c.in_ok-charge.ensures.counted q here.names in
     c.turns.invariant.leads q style at _ _ _
-    (Walking.turn_fails style (walks_at c.turns.turns c.in_ok-walks.walks.items) (gives (written_list c.turns.made)) (result_then c.in_ok-body.body c.turns.made) more counts
+    (Walking.turn_fails style (walks_at c.turns.turns c.in_ok-walks.walks.items) (gives (written_list c.turns.made)) (result_then c.in-Some.body.now c.turns.made) more counts
     (λ k. subst (λ (ws : List Walk). Does (sets_walks (walks_at c.turns.turns ws) (λ rest. k)) (tree_of c.charge.new.tree) q (tree_of c.set_walks.new.tree) e) c.as_slice-in-turns.ensures.value (h q after.names k))))
     (λ q style at.
     let here = still_at c.args.tree.now c.turns.tree c.args.place q style c.turns.invariant.here at in
     let counts = c.in_ok-charge.ensures.counted q here.names in
-    c.turns.invariant.leads q style at _ _ _ (Walking.turn_given_up style (walks_at c.turns.turns c.in_ok-walks.walks.items) (gives (written_list c.turns.made)) (result_then c.in_ok-body.body c.turns.made) more counts))
+    c.turns.invariant.leads q style at _ _ _ (Walking.turn_given_up style (walks_at c.turns.turns c.in_ok-walks.walks.items) (gives (written_list c.turns.made)) (result_then c.in-Some.body.now c.turns.made) more counts))
 
 pub collecting::lmap-returns-in_err-collects-clause-runs : goal.collecting::lmap-returns-in_err-collects-clause-runs
 collecting::lmap-returns-in_err-collects-clause-runs g t c =
@@ -2256,24 +2184,24 @@ collecting::lmap-returns-in_err-collects-clause-runs g t c =
     let p = err_from_is_err_and c.from_residual-in_err-collects.result c.from_residual-in_err-collects.ensures.1 in
     ran_err c.from_residual-in_err-collects.result c.in_err-collects.field-0.0 p.0 _ _ _ p.1 p.2
     (Gathering.collected_err c.eval_value-ended.result c.in_err-collects.field-0.0 c.turns.made c.collects.new.made
-    (EndsAt (ways g.O.Outside.goes g.O.Outside.loses) c.set_walks.new.tree c.charge.new.outside c.args.place (λ style. script c.turns.body) c.eval_value-ended.new.tree c.eval_value-ended.new.outside) c.in_err-collects.ensures c.eval_value-ended.ensures.runs)
+    (EndsAt (ways g.O.Outside.goes g.O.Outside.loses) c.set_walks.new.tree c.charge.new.outside c.args.place (λ style. script c.in-Some.body.now) c.eval_value-ended.new.tree c.eval_value-ended.new.outside) c.in_err-collects.ensures c.eval_value-ended.ensures.runs)
     (λ e h q style at.
     let here = still_at c.args.tree.now c.turns.tree c.args.place q style c.turns.invariant.here at in
     let after = still_at _ _ c.args.place q style (level_here _ _ c.args.place c.charge.ensures.level) here in
     let set = still_at _ _ c.args.place q style (level_here _ _ c.args.place c.set_walks.ensures.level) after in
     let counts = c.in_ok-charge.ensures.counted q here.names in
     c.turns.invariant.leads q style at _ _ _
-    (Walking.turn_begins style (walks_at c.turns.turns c.in_ok-walks.walks.items) (gives (written_list c.turns.made)) (result_then c.in_ok-body.body c.turns.made) more counts
+    (Walking.turn_begins style (walks_at c.turns.turns c.in_ok-walks.walks.items) (gives (written_list c.turns.made)) (result_then c.in-Some.body.now c.turns.made) more counts
     (Walking.walks_set (walks_at c.turns.turns c.in_ok-walks.walks.items) (tree_of c.charge.new.tree) (tree_of c.set_walks.new.tree) q
     (λ k V r d. subst (λ (ws : List Walk). Does (sets_walks (walks_at c.turns.turns ws) (λ rest. k)) (tree_of c.charge.new.tree) q V r) c.as_slice-in-turns.ensures.value (c.in_ok-set_walks.ensures.set q after.names k V r d)))
-    (Gathering.turn_ends style c.in_ok-body.body c.turns.made (map passed (walks_at c.turns.turns c.in_ok-walks.walks.items)) e (EndsAt (ways g.O.Outside.goes g.O.Outside.loses) c.set_walks.new.tree c.charge.new.outside c.args.place (λ style. script c.turns.body) c.eval_value-ended.new.tree c.eval_value-ended.new.outside)
-    (λ f d. at_prog (ap script (sym c.turns.invariant.body)) (d q style (record { names = set.names; style_is = set.style_is }))) h)))
+    (Gathering.turn_ends style c.in-Some.body.now c.turns.made (map passed (walks_at c.turns.turns c.in_ok-walks.walks.items)) e (EndsAt (ways g.O.Outside.goes g.O.Outside.loses) c.set_walks.new.tree c.charge.new.outside c.args.place (λ style. script c.in-Some.body.now) c.eval_value-ended.new.tree c.eval_value-ended.new.outside)
+    (λ f d. d q style (record { names = set.names; style_is = set.style_is })) h)))
 
 pub collecting::lmap-returns-then-not-branch-clause-runs : goal.collecting::lmap-returns-then-not-branch-clause-runs
 collecting::lmap-returns-then-not-branch-clause-runs g t c =
     let more = ap (λ (ws : List Walk). is_over (walks_at c.turns.turns ws)) (sym c.as_slice.ensures.value) ∙ sym c.is_over.ensures ∙ c.if-is_over.false in
     let x = Gathering.collected_ok c.eval_value-ended.result c.in_ok-collects.field-0 false c.turns.made c.collects.new.made
-    (EndsAt (ways g.O.Outside.goes g.O.Outside.loses) c.set_walks.new.tree c.charge.new.outside c.args.place (λ style. script c.turns.body) c.eval_value-ended.new.tree c.eval_value-ended.new.outside) c.in_ok-collects.ensures c.if-not-branch.true c.eval_value-ended.ensures.runs in
+    (EndsAt (ways g.O.Outside.goes g.O.Outside.loses) c.set_walks.new.tree c.charge.new.outside c.args.place (λ style. script c.in-Some.body.now) c.eval_value-ended.new.tree c.eval_value-ended.new.outside) c.in_ok-collects.ensures c.if-not-branch.true c.eval_value-ended.ensures.runs in
     ran c.collected-then-not-branch.result (EndsBy (gives (written_list c.collects.new.made)))
     (EndsFrom (ways g.O.Outside.goes g.O.Outside.loses) c.args.tree.now c.args.outside.now c.args.place (λ style. lmap c.args.args.now) c.eval_value-ended.new.tree c.eval_value-ended.new.outside)
     (λ e h q style at.
@@ -2282,11 +2210,11 @@ collecting::lmap-returns-then-not-branch-clause-runs g t c =
     let set = still_at _ _ c.args.place q style (level_here _ _ c.args.place c.set_walks.ensures.level) after in
     let counts = c.in_ok-charge.ensures.counted q here.names in
     c.turns.invariant.leads q style at _ _ _
-    (Walking.turn_begins style (walks_at c.turns.turns c.in_ok-walks.walks.items) (gives (written_list c.turns.made)) (result_then c.in_ok-body.body c.turns.made) more counts
+    (Walking.turn_begins style (walks_at c.turns.turns c.in_ok-walks.walks.items) (gives (written_list c.turns.made)) (result_then c.in-Some.body.now c.turns.made) more counts
     (Walking.walks_set (walks_at c.turns.turns c.in_ok-walks.walks.items) (tree_of c.charge.new.tree) (tree_of c.set_walks.new.tree) q
     (λ k V r d. subst (λ (ws : List Walk). Does (sets_walks (walks_at c.turns.turns ws) (λ rest. k)) (tree_of c.charge.new.tree) q V r) c.as_slice-in-turns.ensures.value (c.in_ok-set_walks.ensures.set q after.names k V r d)))
-    (goes_on {i = Script c.in_ok-body.body} (at_prog (ap script (sym c.turns.invariant.body)) (x.1 q style (record { names = set.names; style_is = set.style_is })))
-    (at_prog (x.2 (λ made. go (Lmap (map passed (walks_at c.turns.turns c.in_ok-walks.walks.items)) c.in_ok-body.body made) done))
+    (goes_on {i = Script c.in-Some.body.now} (x.1 q style (record { names = set.names; style_is = set.style_is }))
+    (at_prog (x.2 (λ made. go (Lmap (map passed (walks_at c.turns.turns c.in_ok-walks.walks.items)) c.in-Some.body.now made) done))
     (Conditions.ends_by style (gives (written_list c.collects.new.made)) e h)))))
     (λ q style at.
     let here = still_at c.args.tree.now c.turns.tree c.args.place q style c.turns.invariant.here at in
@@ -2294,17 +2222,17 @@ collecting::lmap-returns-then-not-branch-clause-runs g t c =
     let set = still_at _ _ c.args.place q style (level_here _ _ c.args.place c.set_walks.ensures.level) after in
     let counts = c.in_ok-charge.ensures.counted q here.names in
     c.turns.invariant.leads q style at _ _ _
-    (Walking.turn_begins style (walks_at c.turns.turns c.in_ok-walks.walks.items) (gives (written_list c.turns.made)) (result_then c.in_ok-body.body c.turns.made) more counts
+    (Walking.turn_begins style (walks_at c.turns.turns c.in_ok-walks.walks.items) (gives (written_list c.turns.made)) (result_then c.in-Some.body.now c.turns.made) more counts
     (Walking.walks_set (walks_at c.turns.turns c.in_ok-walks.walks.items) (tree_of c.charge.new.tree) (tree_of c.set_walks.new.tree) q
     (λ k V r d. subst (λ (ws : List Walk). Does (sets_walks (walks_at c.turns.turns ws) (λ rest. k)) (tree_of c.charge.new.tree) q V r) c.as_slice-in-turns.ensures.value (c.in_ok-set_walks.ensures.set q after.names k V r d)))
-    (goes_on {i = Script c.in_ok-body.body} (at_prog (ap script (sym c.turns.invariant.body)) (x.1 q style (record { names = set.names; style_is = set.style_is }))) stopped)))
+    (goes_on {i = Script c.in-Some.body.now} (x.1 q style (record { names = set.names; style_is = set.style_is })) stopped)))
     c.collected-then-not-branch.ensures
 
 pub collecting::lmap-turns-preserved : goal.collecting::lmap-turns-preserved
 collecting::lmap-turns-preserved g t c =
     let more = ap (λ (ws : List Walk). is_over (walks_at c.turns.turns ws)) (sym c.as_slice.ensures.value) ∙ sym c.is_over.ensures ∙ c.if-is_over.false in
     let x = Gathering.collected_ok c.eval_value-ended.result c.in_ok-collects.field-0 true c.turns.made c.collects.new.made
-    (EndsAt (ways g.O.Outside.goes g.O.Outside.loses) c.set_walks.new.tree c.charge.new.outside c.args.place (λ style. script c.turns.body) c.eval_value-ended.new.tree c.eval_value-ended.new.outside) c.in_ok-collects.ensures c.if-not-branch.false c.eval_value-ended.ensures.runs in
+    (EndsAt (ways g.O.Outside.goes g.O.Outside.loses) c.set_walks.new.tree c.charge.new.outside c.args.place (λ style. script c.in-Some.body.now) c.eval_value-ended.new.tree c.eval_value-ended.new.outside) c.in_ok-collects.ensures c.if-not-branch.false c.eval_value-ended.ensures.runs in
     record {
       leads = λ q style at V z r run.
           let here = still_at c.args.tree.now c.turns.tree c.args.place q style c.turns.invariant.here at in
@@ -2312,14 +2240,13 @@ collecting::lmap-turns-preserved g t c =
           let set = still_at _ _ c.args.place q style (level_here _ _ c.args.place c.set_walks.ensures.level) after in
           let counts = c.in_ok-charge.ensures.counted q here.names in
           c.turns.invariant.leads q style at _ _ _
-          (Walking.turn_begins style (walks_at c.turns.turns c.in_ok-walks.walks.items) (gives (written_list c.turns.made)) (result_then c.in_ok-body.body c.turns.made) more counts
+          (Walking.turn_begins style (walks_at c.turns.turns c.in_ok-walks.walks.items) (gives (written_list c.turns.made)) (result_then c.in-Some.body.now c.turns.made) more counts
           (Walking.walks_set (walks_at c.turns.turns c.in_ok-walks.walks.items) (tree_of c.charge.new.tree) (tree_of c.set_walks.new.tree) q
           (λ k V r d. subst (λ (ws : List Walk). Does (sets_walks (walks_at c.turns.turns ws) (λ rest. k)) (tree_of c.charge.new.tree) q V r) c.as_slice-in-turns.ensures.value (c.in_ok-set_walks.ensures.set q after.names k V r d)))
-          (goes_on {i = Script c.in_ok-body.body} (at_prog (ap script (sym c.turns.invariant.body)) (x.1 q style (record { names = set.names; style_is = set.style_is })))
-          (at_prog (x.2 (λ made. go (Lmap (map passed (walks_at c.turns.turns c.in_ok-walks.walks.items)) c.in_ok-body.body made) done))
-          (goes_done {i = Lmap (map passed (walks_at c.turns.turns c.in_ok-walks.walks.items)) c.in_ok-body.body c.collects.new.made}
-          (at_prog (ap (λ (ws : List Left). lmap_turns ws c.in_ok-body.body c.collects.new.made) (Walking.walks_next c.turns.turns c.in_ok-walks.walks.items)) run)))));
-      body = c.eval_value-ended.ensures.same ∙ c.turns.invariant.body;
+          (goes_on {i = Script c.in-Some.body.now} (x.1 q style (record { names = set.names; style_is = set.style_is }))
+          (at_prog (x.2 (λ made. go (Lmap (map passed (walks_at c.turns.turns c.in_ok-walks.walks.items)) c.in-Some.body.now made) done))
+          (goes_done {i = Lmap (map passed (walks_at c.turns.turns c.in_ok-walks.walks.items)) c.in-Some.body.now c.collects.new.made}
+          (at_prog (ap (λ (ws : List Left). lmap_turns ws c.in-Some.body.now c.collects.new.made) (Walking.walks_next c.turns.turns c.in_ok-walks.walks.items)) run)))));
       here = here-trans c.args.tree.now c.set_walks.new.tree c.eval_value-ended.new.tree c.args.place (here-trans c.args.tree.now c.charge.new.tree c.set_walks.new.tree c.args.place (here-trans c.args.tree.now c.turns.tree c.charge.new.tree c.args.place c.turns.invariant.here (level_here c.turns.tree c.charge.new.tree c.args.place c.charge.ensures.level)) (level_here c.charge.new.tree c.set_walks.new.tree c.args.place c.set_walks.ensures.level)) (here_in c.eval_value-ended.result c.in_ok-collects.ensures.0 (IsHere c.set_walks.new.tree c.eval_value-ended.new.tree c.args.place) c.in_ok-collects.ensures.1 c.eval_value-ended.ensures.here);
       keeps = keeps-trans (keeps-trans (keeps-trans c.turns.invariant.keeps (charged_keeps c.charge.ensures.level c.charge.ensures.left)) (level_keeps _ c.set_walks.ensures.level)) c.eval_value-ended.ensures.keeps;
     }
@@ -2371,9 +2298,6 @@ expressions::if_first-condition-requires g t c κs within = (search rules, (sear
 
 pub expressions::if_first-returns-in_err-condition-clause-keeps : goal.expressions::if_first-returns-in_err-condition-clause-keeps
 expressions::if_first-returns-in_err-condition-clause-keeps g t c = keeps-trans c.tests.invariant.keeps c.condition.ensures.keeps
-
-pub expressions::if_first-returns-in_err-body-clause-keeps : goal.expressions::if_first-returns-in_err-body-clause-keeps
-expressions::if_first-returns-in_err-body-clause-keeps g t c = keeps-trans c.tests.invariant.keeps c.condition.ensures.keeps
 
 pub expressions::if_first-eval_value-requires : goal.expressions::if_first-eval_value-requires
 expressions::if_first-eval_value-requires g t c κs within = (search rules, (search rules, let r = still_running c.args.tree.now c.condition.new.tree c.args.place (here-trans c.args.tree.now c.tests.tree c.condition.new.tree c.args.place c.tests.invariant.here c.in_ok-condition.ensures.here) c.requires in (r.0, r.1)))
@@ -2585,19 +2509,14 @@ trying::run_handler-returns-in_default-clause-runs g t c =
     let none : option_copied c.args.chosen ≡ None = ap option_copied c.in_default.is in
     λ q style at. at_prog (ap runs_last none) (at_reply (ap (λ (x : List ℕ). Completed (ok x)) c.empty.ensures) completed)
 
-pub trying::run_handler-returns-in_err-own-clause-runs : goal.trying::run_handler-returns-in_err-own-clause-runs
-trying::run_handler-returns-in_err-own-clause-runs g t c =
-    let p = err_from_is_err_and c.from_residual.result c.from_residual.ensures.1 in
-    memory_err c.from_residual.result p.0 _ _ p.1 p.2 (λ q style at. stopped)
-
 pub trying::run_handler-returns-clause-runs : goal.trying::run_handler-returns-clause-runs
 trying::run_handler-returns-clause-runs g t c =
     let some : option_copied c.args.chosen ≡ Some c.in-Some.script.now = ap option_copied c.in-Some.is in
     IfRan-more c.eval_value.result
-    (EndsAt (ways g.O.Outside.goes g.O.Outside.loses) c.args.tree.now c.args.outside.now c.args.place (λ style. script c.in_ok-own.own) c.eval_value.new.tree c.eval_value.new.outside)
+    (EndsAt (ways g.O.Outside.goes g.O.Outside.loses) c.args.tree.now c.args.outside.now c.args.place (λ style. script c.in-Some.script.now) c.eval_value.new.tree c.eval_value.new.outside)
     (EndsFrom (ways g.O.Outside.goes g.O.Outside.loses) c.args.tree.now c.args.outside.now c.args.place (λ style. runs_last (option_copied c.args.chosen)) c.eval_value.new.tree c.eval_value.new.outside)
     (λ e h q style at. at_prog (ap runs_last some)
-    (goes_done {i = Script c.in-Some.script.now} (at_prog (ap script (sym c.in_ok-own.ensures.cases)) (h q style (record { names = at.names; style_is = at.style_is }))))) c.eval_value.ensures.runs
+    (goes_done {i = Script c.in-Some.script.now} (h q style (record { names = at.names; style_is = at.style_is })))) c.eval_value.ensures.runs
 
 -- a handler
 
@@ -2639,18 +2558,13 @@ trying::handle-returns-clause-keeps g t c =
 
 -- a body and its handlers
 
-pub trying::handled-returns-in_err-script-clause-runs : goal.trying::handled-returns-in_err-script-clause-runs
-trying::handled-returns-in_err-script-clause-runs g t c =
-    let p = err_from_is_err_and c.from_residual.result c.from_residual.ensures.1 in
-    memory_err c.from_residual.result p.0 _ _ p.1 p.2 (λ q style at. stopped)
-
 pub trying::handled-returns-in_err-completion-clause-runs : goal.trying::handled-returns-in_err-completion-clause-runs
 trying::handled-returns-in_err-completion-clause-runs g t c =
-    let p = err_from_is_err_and c.from_residual-in_err-completion.result c.from_residual-in_err-completion.ensures.1 in
-    ran_err c.from_residual-in_err-completion.result c.in_err-completion.field-0.0 p.0 _ _ _ p.1 p.2
-    (caught_err c.eval_value.result c.caught.result c.in_err-completion.field-0.0 (EndsAt (ways g.O.Outside.goes g.O.Outside.loses) c.args.tree.now c.args.outside.now c.args.place (λ style. script c.in_ok-script.script) c.eval_value.new.tree c.eval_value.new.outside)
+    let p = err_from_is_err_and c.from_residual.result c.from_residual.ensures.1 in
+    ran_err c.from_residual.result c.in_err-completion.field-0.0 p.0 _ _ _ p.1 p.2
+    (caught_err c.eval_value.result c.caught.result c.in_err-completion.field-0.0 (EndsAt (ways g.O.Outside.goes g.O.Outside.loses) c.args.tree.now c.args.outside.now c.args.place (λ style. script c.args.body.now) c.eval_value.new.tree c.eval_value.new.outside)
     c.in_err-completion.was c.caught.ensures c.eval_value.ensures.runs)
-    (λ e h q style at. passes {i = Script c.args.body.now} h.1 (at_prog (ap script (sym c.in_ok-script.ensures.cases)) (h.0 q style (record { names = at.names; style_is = at.style_is }))))
+    (λ e h q style at. passes {i = Script c.args.body.now} h.1 (h.0 q style (record { names = at.names; style_is = at.style_is })))
 
 pub trying::handled-handle-requires : goal.trying::handled-handle-requires
 trying::handled-handle-requires g t c κs within =
@@ -2658,12 +2572,12 @@ trying::handled-handle-requires g t c κs within =
 
 pub trying::handled-returns-clause-runs : goal.trying::handled-returns-clause-runs
 trying::handled-returns-clause-runs g t c =
-    let caught = caught_ok c.eval_value.result c.caught.result c.in_ok-completion.completion (EndsAt (ways g.O.Outside.goes g.O.Outside.loses) c.args.tree.now c.args.outside.now c.args.place (λ style. script c.in_ok-script.script) c.eval_value.new.tree c.eval_value.new.outside)
+    let caught = caught_ok c.eval_value.result c.caught.result c.in_ok-completion.completion (EndsAt (ways g.O.Outside.goes g.O.Outside.loses) c.args.tree.now c.args.outside.now c.args.place (λ style. script c.args.body.now) c.eval_value.new.tree c.eval_value.new.outside)
     c.in_ok-completion.was c.caught.ensures c.eval_value.ensures.runs in
     IfRan-more c.handle.result
     (EndsFrom (ways g.O.Outside.goes g.O.Outside.loses) c.eval_value.new.tree c.eval_value.new.outside c.args.place (λ style. handled_by (completion_of c.in_ok-completion.completion) (handlers_of c.args.handlers.now)) c.handle.new.tree c.handle.new.outside)
     (EndsFrom (ways g.O.Outside.goes g.O.Outside.loses) c.args.tree.now c.args.outside.now c.args.place (λ style. handled c.args.body.now (handlers_of c.args.handlers.now)) c.handle.new.tree c.handle.new.outside)
-    (λ e h q style at. goes_on {i = Script c.args.body.now} (at_prog (ap script (sym c.in_ok-script.ensures.cases)) (caught q style (record { names = at.names; style_is = at.style_is })))
+    (λ e h q style at. goes_on {i = Script c.args.body.now} (caught q style (record { names = at.names; style_is = at.style_is }))
     (h q style (still_at c.args.tree.now c.eval_value.new.tree c.args.place q style (here_caught c.eval_value.result c.caught.result c.in_ok-completion.completion c.args.tree.now c.eval_value.new.tree c.args.place c.in_ok-completion.was c.caught.ensures c.eval_value.ensures.here) at))) c.handle.ensures.runs
 
 pub trying::handled-returns-clause-keeps : goal.trying::handled-returns-clause-keeps
@@ -2705,18 +2619,6 @@ trying::try_script-returns-in_err-completion-clause-runs g t c =
     Choosing.try_begins style c.args.args.now (take (length c.args.args.now - 1) (drop 1 c.args.args.now)) c.body-item.result (tried_seen c.in_ok-tried.tried) (split_first c.args.args.now c.body-item.result c.in-len1-up.len_at_least c.body-item.is) (ap (λ (s : Integers). tried_of s (take (length c.args.args.now - 1) (drop 1 c.args.args.now))) (sym same) ∙ c.in_ok-tried.ensures)
     (Choosing.finish_passes style c.body-item.result (handlers_of c.in_ok-tried.tried.handlers.items) (option_copied c.in_ok-tried.tried.last) h.1 (at_prog (ap (λ (hs : List TriedHandler). handled c.body-item.result (handlers_of hs)) (sym c.as_slice.ensures.value)) (h.0 q style at))))
 
-pub trying::try_script-returns-in_err-script-clause-runs : goal.trying::try_script-returns-in_err-script-clause-runs
-trying::try_script-returns-in_err-script-clause-runs g t c =
-    let p = err_from_is_err_and c.from_residual-in_err-script.result c.from_residual-in_err-script.ensures.1 in
-    let caught = caught_ok c.handled-ended.result c.caught.result c.in_ok-completion.completion (EndsFrom (ways g.O.Outside.goes g.O.Outside.loses) c.args.tree.now c.args.outside.now c.args.place (λ style. handled c.body-item.result (handlers_of c.as_slice.result.now)) c.handled-ended.new.tree c.handled-ended.new.outside)
-    c.in_ok-completion.was c.caught.ensures c.handled-ended.ensures.runs in
-    let some : option_copied c.in_ok-tried.tried.last ≡ Some c.in-Some.last.now = ap option_copied c.in-Some.is in
-    memory_err c.from_residual-in_err-script.result p.0 _ _ p.1 p.2
-    (λ q style at.
-    let same = c.integers.ensures ∙ at.style_is in
-    Choosing.try_begins style c.args.args.now (take (length c.args.args.now - 1) (drop 1 c.args.args.now)) c.body-item.result (tried_seen c.in_ok-tried.tried) (split_first c.args.args.now c.body-item.result c.in-len1-up.len_at_least c.body-item.is) (ap (λ (s : Integers). tried_of s (take (length c.args.args.now - 1) (drop 1 c.args.args.now))) (sym same) ∙ c.in_ok-tried.ensures)
-    (Choosing.finish_lost style c.body-item.result (handlers_of c.in_ok-tried.tried.handlers.items) (option_copied c.in_ok-tried.tried.last) c.in-Some.last.now (completion_of c.in_ok-completion.completion) some (at_prog (ap (λ (hs : List TriedHandler). handled c.body-item.result (handlers_of hs)) (sym c.as_slice.ensures.value)) (caught q style at))))
-
 pub trying::try_script-eval_value-requires : goal.trying::try_script-eval_value-requires
 trying::try_script-eval_value-requires g t c κs within =
     (search rules, (search rules, let r = still_running c.args.tree.now c.handled-ended.new.tree c.args.place (here_caught c.handled-ended.result c.caught.result c.in_ok-completion.completion c.args.tree.now c.handled-ended.new.tree c.args.place c.in_ok-completion.was c.caught.ensures c.handled-ended.ensures.here) c.requires in (r.0, r.1)))
@@ -2728,14 +2630,14 @@ trying::try_script-returns-in_err-on_ok-clause-runs g t c =
     c.in_ok-completion.was c.caught.ensures c.handled-ended.ensures.runs in
     let some : option_copied c.in_ok-tried.tried.last ≡ Some c.in-Some.last.now = ap option_copied c.in-Some.is in
     ran_err c.from_residual-in_err-on_ok.result c.in_err-on_ok.field-0.0 p.0 _ _ _ p.1 p.2
-    (stays_of c.eval_value.result c.in_err-on_ok.field-0.0 (EndsAt (ways g.O.Outside.goes g.O.Outside.loses) c.handled-ended.new.tree c.handled-ended.new.outside c.args.place (λ style. script c.in_ok-script.script) c.eval_value.new.tree c.eval_value.new.outside)
+    (stays_of c.eval_value.result c.in_err-on_ok.field-0.0 (EndsAt (ways g.O.Outside.goes g.O.Outside.loses) c.handled-ended.new.tree c.handled-ended.new.outside c.args.place (λ style. script c.in-Some.last.now) c.eval_value.new.tree c.eval_value.new.outside)
     c.in_err-on_ok.ensures.same c.eval_value.ensures.runs c.in_err-on_ok.ensures.stays)
     (λ e h q style at.
     let same = c.integers.ensures ∙ at.style_is in
     let after = still_at c.args.tree.now c.handled-ended.new.tree c.args.place q style (here_caught c.handled-ended.result c.caught.result c.in_ok-completion.completion c.args.tree.now c.handled-ended.new.tree c.args.place c.in_ok-completion.was c.caught.ensures c.handled-ended.ensures.here) at in
     Choosing.try_begins style c.args.args.now (take (length c.args.args.now - 1) (drop 1 c.args.args.now)) c.body-item.result (tried_seen c.in_ok-tried.tried) (split_first c.args.args.now c.body-item.result c.in-len1-up.len_at_least c.body-item.is) (ap (λ (s : Integers). tried_of s (take (length c.args.args.now - 1) (drop 1 c.args.args.now))) (sym same) ∙ c.in_ok-tried.ensures)
     (Choosing.finish_stays style c.body-item.result (handlers_of c.in_ok-tried.tried.handlers.items) (option_copied c.in_ok-tried.tried.last) c.in-Some.last.now (completion_of c.in_ok-completion.completion) e some h.1 (at_prog (ap (λ (hs : List TriedHandler). handled c.body-item.result (handlers_of hs)) (sym c.as_slice.ensures.value)) (caught q style at))
-    (at_prog (ap script (sym c.in_ok-script.ensures.cases)) (h.0 q style (record { names = after.names; style_is = after.style_is })))))
+    (h.0 q style (record { names = after.names; style_is = after.style_is }))))
 
 pub trying::try_script-returns-in_err-on_ok-clause-keeps : goal.trying::try_script-returns-in_err-on_ok-clause-keeps
 trying::try_script-returns-in_err-on_ok-clause-keeps g t c =
@@ -2746,7 +2648,7 @@ trying::try_script-returns-clause-runs g t c =
     let caught = caught_ok c.handled-ended.result c.caught.result c.in_ok-completion.completion (EndsFrom (ways g.O.Outside.goes g.O.Outside.loses) c.args.tree.now c.args.outside.now c.args.place (λ style. handled c.body-item.result (handlers_of c.as_slice.result.now)) c.handled-ended.new.tree c.handled-ended.new.outside)
     c.in_ok-completion.was c.caught.ensures c.handled-ended.ensures.runs in
     let some : option_copied c.in_ok-tried.tried.last ≡ Some c.in-Some.last.now = ap option_copied c.in-Some.is in
-    let x = ran_text c.eval_value.result c.in_ok-on_ok.field-0 (EndsAt (ways g.O.Outside.goes g.O.Outside.loses) c.handled-ended.new.tree c.handled-ended.new.outside c.args.place (λ style. script c.in_ok-script.script) c.eval_value.new.tree c.eval_value.new.outside) c.in_ok-on_ok.ensures.text c.eval_value.ensures.runs in
+    let x = ran_text c.eval_value.result c.in_ok-on_ok.field-0 (EndsAt (ways g.O.Outside.goes g.O.Outside.loses) c.handled-ended.new.tree c.handled-ended.new.outside c.args.place (λ style. script c.in-Some.last.now) c.eval_value.new.tree c.eval_value.new.outside) c.in_ok-on_ok.ensures.text c.eval_value.ensures.runs in
     ran c.released.result (λ e. e ≡ Completed (completion_of c.in_ok-completion.completion))
     (EndsFrom (ways g.O.Outside.goes g.O.Outside.loses) c.args.tree.now c.args.outside.now c.args.place (λ style. try_script style c.args.args.now) c.eval_value.new.tree c.eval_value.new.outside)
     (λ e h q style at.
@@ -2754,13 +2656,13 @@ trying::try_script-returns-clause-runs g t c =
     let after = still_at c.args.tree.now c.handled-ended.new.tree c.args.place q style (here_caught c.handled-ended.result c.caught.result c.in_ok-completion.completion c.args.tree.now c.handled-ended.new.tree c.args.place c.in_ok-completion.was c.caught.ensures c.handled-ended.ensures.here) at in
     Choosing.try_begins style c.args.args.now (take (length c.args.args.now - 1) (drop 1 c.args.args.now)) c.body-item.result (tried_seen c.in_ok-tried.tried) (split_first c.args.args.now c.body-item.result c.in-len1-up.len_at_least c.body-item.is) (ap (λ (s : Integers). tried_of s (take (length c.args.args.now - 1) (drop 1 c.args.args.now))) (sym same) ∙ c.in_ok-tried.ensures)
     (Choosing.finish_goes style c.body-item.result (handlers_of c.in_ok-tried.tried.handlers.items) (option_copied c.in_ok-tried.tried.last) c.in-Some.last.now (completion_of c.in_ok-completion.completion) x.0 c.in_ok-on_ok.field-0 some x.2 x.3 (at_prog (ap (λ (hs : List TriedHandler). handled c.body-item.result (handlers_of hs)) (sym c.as_slice.ensures.value)) (caught q style at))
-    (at_prog (ap script (sym c.in_ok-script.ensures.cases)) (x.1 q style (record { names = after.names; style_is = after.style_is }))) (at_reply h completed)))
+    (x.1 q style (record { names = after.names; style_is = after.style_is })) (at_reply h completed)))
     (λ q style at.
     let same = c.integers.ensures ∙ at.style_is in
     let after = still_at c.args.tree.now c.handled-ended.new.tree c.args.place q style (here_caught c.handled-ended.result c.caught.result c.in_ok-completion.completion c.args.tree.now c.handled-ended.new.tree c.args.place c.in_ok-completion.was c.caught.ensures c.handled-ended.ensures.here) at in
     Choosing.try_begins style c.args.args.now (take (length c.args.args.now - 1) (drop 1 c.args.args.now)) c.body-item.result (tried_seen c.in_ok-tried.tried) (split_first c.args.args.now c.body-item.result c.in-len1-up.len_at_least c.body-item.is) (ap (λ (s : Integers). tried_of s (take (length c.args.args.now - 1) (drop 1 c.args.args.now))) (sym same) ∙ c.in_ok-tried.ensures)
     (Choosing.finish_goes style c.body-item.result (handlers_of c.in_ok-tried.tried.handlers.items) (option_copied c.in_ok-tried.tried.last) c.in-Some.last.now (completion_of c.in_ok-completion.completion) x.0 c.in_ok-on_ok.field-0 some x.2 x.3 (at_prog (ap (λ (hs : List TriedHandler). handled c.body-item.result (handlers_of hs)) (sym c.as_slice.ensures.value)) (caught q style at))
-    (at_prog (ap script (sym c.in_ok-script.ensures.cases)) (x.1 q style (record { names = after.names; style_is = after.style_is }))) stopped))
+    (x.1 q style (record { names = after.names; style_is = after.style_is })) stopped))
     c.released.ensures
 
 pub trying::try_script-returns-clause-keeps : goal.trying::try_script-returns-clause-keeps
@@ -3341,8 +3243,8 @@ commands::call_procedure-returns-in_err-enter_frame-clause-here g t c = on_compl
 
 pub control::catch-returns-in_err-completion-clause-here : goal.control::catch-returns-in_err-completion-clause-here
 control::catch-returns-in_err-completion-clause-here g t c =
-    let p = err_from_is_err_and c.from_residual-in_err-completion.result c.from_residual-in_err-completion.ensures.1 in
-    completes_err c.from_residual-in_err-completion.result c.in_err-completion.field-0.0 p.0 (IsHere c.args.tree.now c.eval_value.new.tree c.args.place) (IsHere c.args.tree.now c.eval_value.new.tree c.args.place) p.1 p.2
+    let p = err_from_is_err_and c.from_residual.result c.from_residual.ensures.1 in
+    completes_err c.from_residual.result c.in_err-completion.field-0.0 p.0 (IsHere c.args.tree.now c.eval_value.new.tree c.args.place) (IsHere c.args.tree.now c.eval_value.new.tree c.args.place) p.1 p.2
     (uncaught c.eval_value.result c.caught.result c.in_err-completion.field-0.0 (IsHere c.args.tree.now c.eval_value.new.tree c.args.place) c.in_err-completion.was c.caught.ensures) (λ h. h)
 
 pub control::catch-returns-in_err-keep_caught-clause-here : goal.control::catch-returns-in_err-keep_caught-clause-here
@@ -3425,17 +3327,11 @@ expressions::if_first-returns-in_err-condition-clause-here g t c =
     let p = err_from_is_err_and c.from_residual-in_err-condition.result c.from_residual-in_err-condition.ensures.1 in
     here_err c.from_residual-in_err-condition.result c.in_err-condition.field-0.0 p.0 c.args.tree.now c.tests.tree c.condition.new.tree c.args.place p.1 p.2 c.tests.invariant.here c.in_err-condition.ensures.here
 
-pub expressions::if_first-returns-in_err-body-clause-here : goal.expressions::if_first-returns-in_err-body-clause-here
-expressions::if_first-returns-in_err-body-clause-here g t c = on_completion c.from_residual-in_err-body.result (IsHere c.args.tree.now c.condition.new.tree c.args.place) (here-trans c.args.tree.now c.tests.tree c.condition.new.tree c.args.place c.tests.invariant.here c.in_ok-condition.ensures.here)
-
 pub expressions::if_first-returns-then-branch-clause-here : goal.expressions::if_first-returns-then-branch-clause-here
 expressions::if_first-returns-then-branch-clause-here g t c = here_then c.eval_value.result c.args.tree.now c.condition.new.tree c.eval_value.new.tree c.args.place (here-trans c.args.tree.now c.tests.tree c.condition.new.tree c.args.place c.tests.invariant.here c.in_ok-condition.ensures.here) c.eval_value.ensures.here
 
 pub expressions::if_first-returns-in_default-last-clause-here : goal.expressions::if_first-returns-in_default-last-clause-here
 expressions::if_first-returns-in_default-last-clause-here g t c = c.tests.invariant.here
-
-pub expressions::if_first-returns-in_err-body-2-clause-here : goal.expressions::if_first-returns-in_err-body-2-clause-here
-expressions::if_first-returns-in_err-body-2-clause-here g t c = on_completion c.from_residual-in_err-body-2.result (IsHere c.args.tree.now c.tests.tree c.args.place) c.tests.invariant.here
 
 pub expressions::if_first-returns-clause-here : goal.expressions::if_first-returns-clause-here
 expressions::if_first-returns-clause-here g t c = here_then c.eval_value-2.result c.args.tree.now c.tests.tree c.eval_value-2.new.tree c.args.place c.tests.invariant.here c.eval_value-2.ensures.here
@@ -3472,17 +3368,11 @@ expressions::while_loop-returns-then-not-branch-clause-here g t c = here-trans c
 
 pub expressions::for_loop-returns-in_err-on_ok-clause-here : goal.expressions::for_loop-returns-in_err-on_ok-clause-here
 expressions::for_loop-returns-in_err-on_ok-clause-here g t c =
-    let p = err_from_is_err_and c.from_residual-in_err-on_ok.result c.from_residual-in_err-on_ok.ensures.1 in
-    here_passed c.from_residual-in_err-on_ok.result c.eval_value.result c.in_err-on_ok.field-0.0 p.0 c.args.tree.now c.args.tree.now c.eval_value.new.tree c.args.place p.1 p.2 c.in_err-on_ok.ensures.same (here-refl c.args.tree.now c.args.place) c.eval_value.ensures.here
+    let p = err_from_is_err_and c.from_residual.result c.from_residual.ensures.1 in
+    here_passed c.from_residual.result c.eval_value.result c.in_err-on_ok.field-0.0 p.0 c.args.tree.now c.args.tree.now c.eval_value.new.tree c.args.place p.1 p.2 c.in_err-on_ok.ensures.same (here-refl c.args.tree.now c.args.place) c.eval_value.ensures.here
 
 pub expressions::for_loop-returns-in_err-test-clause-here : goal.expressions::for_loop-returns-in_err-test-clause-here
 expressions::for_loop-returns-in_err-test-clause-here g t c = on_completion c.from_residual-in_err-test.result (IsHere c.args.tree.now c.eval_value.new.tree c.args.place) (here_text c.eval_value.result c.in_ok-on_ok.field-0 c.args.tree.now c.eval_value.new.tree c.args.place c.in_ok-on_ok.ensures.text c.eval_value.ensures.here)
-
-pub expressions::for_loop-returns-in_err-next-clause-here : goal.expressions::for_loop-returns-in_err-next-clause-here
-expressions::for_loop-returns-in_err-next-clause-here g t c = on_completion c.from_residual-in_err-next.result (IsHere c.args.tree.now c.eval_value.new.tree c.args.place) (here_text c.eval_value.result c.in_ok-on_ok.field-0 c.args.tree.now c.eval_value.new.tree c.args.place c.in_ok-on_ok.ensures.text c.eval_value.ensures.here)
-
-pub expressions::for_loop-returns-in_err-body-clause-here : goal.expressions::for_loop-returns-in_err-body-clause-here
-expressions::for_loop-returns-in_err-body-clause-here g t c = on_completion c.from_residual-in_err-body.result (IsHere c.args.tree.now c.eval_value.new.tree c.args.place) (here_text c.eval_value.result c.in_ok-on_ok.field-0 c.args.tree.now c.eval_value.new.tree c.args.place c.in_ok-on_ok.ensures.text c.eval_value.ensures.here)
 
 pub expressions::for_loop-returns-in_err-turn-clause-here : goal.expressions::for_loop-returns-in_err-turn-clause-here
 expressions::for_loop-returns-in_err-turn-clause-here g t c =
@@ -3504,7 +3394,7 @@ pub loops::walk_through-returns-then-is_over-clause-here : goal.loops::walk_thro
 loops::walk_through-returns-then-is_over-clause-here g t c = c.turns.invariant.here
 
 pub loops::walk_through-returns-in_err-charge-clause-here : goal.loops::walk_through-returns-in_err-charge-clause-here
-loops::walk_through-returns-in_err-charge-clause-here g t c = on_completion c.from_residual-in_err-charge.result (IsHere c.args.tree.now c.charge.new.tree c.args.place) (here-trans c.args.tree.now c.turns.tree c.charge.new.tree c.args.place c.turns.invariant.here (level_here c.turns.tree c.charge.new.tree c.args.place c.charge.ensures.level))
+loops::walk_through-returns-in_err-charge-clause-here g t c = on_completion c.from_residual.result (IsHere c.args.tree.now c.charge.new.tree c.args.place) (here-trans c.args.tree.now c.turns.tree c.charge.new.tree c.args.place c.turns.invariant.here (level_here c.turns.tree c.charge.new.tree c.args.place c.charge.ensures.level))
 
 pub loops::walk_through-returns-in_err-set_walks-clause-here : goal.loops::walk_through-returns-in_err-set_walks-clause-here
 loops::walk_through-returns-in_err-set_walks-clause-here g t c = on_completion c.from_residual-in_err-set_walks.result (IsHere c.args.tree.now c.set_walks.new.tree c.args.place) (here-trans c.args.tree.now c.charge.new.tree c.set_walks.new.tree c.args.place (here-trans c.args.tree.now c.turns.tree c.charge.new.tree c.args.place c.turns.invariant.here (level_here c.turns.tree c.charge.new.tree c.args.place c.charge.ensures.level)) (level_here c.charge.new.tree c.set_walks.new.tree c.args.place c.set_walks.ensures.level))
@@ -3578,8 +3468,8 @@ trying::handle-returns-in_err-keep_named-clause-keeps g t c = level_keeps _ c.ke
 
 pub trying::handled-returns-in_err-completion-clause-here : goal.trying::handled-returns-in_err-completion-clause-here
 trying::handled-returns-in_err-completion-clause-here g t c =
-    let p = err_from_is_err_and c.from_residual-in_err-completion.result c.from_residual-in_err-completion.ensures.1 in
-    completes_err c.from_residual-in_err-completion.result c.in_err-completion.field-0.0 p.0 (IsHere c.args.tree.now c.eval_value.new.tree c.args.place) (IsHere c.args.tree.now c.eval_value.new.tree c.args.place) p.1 p.2
+    let p = err_from_is_err_and c.from_residual.result c.from_residual.ensures.1 in
+    completes_err c.from_residual.result c.in_err-completion.field-0.0 p.0 (IsHere c.args.tree.now c.eval_value.new.tree c.args.place) (IsHere c.args.tree.now c.eval_value.new.tree c.args.place) p.1 p.2
     (uncaught c.eval_value.result c.caught.result c.in_err-completion.field-0.0 (IsHere c.args.tree.now c.eval_value.new.tree c.args.place) c.in_err-completion.was c.caught.ensures) (λ h. h)
 
 pub trying::handled-returns-clause-here : goal.trying::handled-returns-clause-here
@@ -3590,9 +3480,6 @@ trying::try_script-returns-in_err-completion-clause-here g t c =
     let p = err_from_is_err_and c.from_residual-in_err-completion.result c.from_residual-in_err-completion.ensures.1 in
     completes_err c.from_residual-in_err-completion.result c.in_err-completion.field-0.0 p.0 (IsHere c.args.tree.now c.handled-ended.new.tree c.args.place) (IsHere c.args.tree.now c.handled-ended.new.tree c.args.place) p.1 p.2
     (uncaught c.handled-ended.result c.caught.result c.in_err-completion.field-0.0 (IsHere c.args.tree.now c.handled-ended.new.tree c.args.place) c.in_err-completion.was c.caught.ensures) (λ h. h)
-
-pub trying::try_script-returns-in_err-script-clause-here : goal.trying::try_script-returns-in_err-script-clause-here
-trying::try_script-returns-in_err-script-clause-here g t c = on_completion c.from_residual-in_err-script.result (IsHere c.args.tree.now c.handled-ended.new.tree c.args.place) (here_caught c.handled-ended.result c.caught.result c.in_ok-completion.completion c.args.tree.now c.handled-ended.new.tree c.args.place c.in_ok-completion.was c.caught.ensures c.handled-ended.ensures.here)
 
 pub trying::try_script-returns-in_err-on_ok-clause-here : goal.trying::try_script-returns-in_err-on_ok-clause-here
 trying::try_script-returns-in_err-on_ok-clause-here g t c =
@@ -3659,9 +3546,6 @@ children::child-returns-in_err-name-clause-here g t c = unmoved c.from_residual.
 pub children::child-returns-in_err-text-clause-here : goal.children::child-returns-in_err-text-clause-here
 children::child-returns-in_err-text-clause-here g t c = unmoved c.from_residual-in_err-text.result c.args.tree.now c.args.place
 
-pub collecting::lmap-returns-in_err-body-clause-here : goal.collecting::lmap-returns-in_err-body-clause-here
-collecting::lmap-returns-in_err-body-clause-here g t c = unmoved c.from_residual-in_err-body.result c.args.tree.now c.args.place
-
 pub collecting::lmap-returns-in_err-made-clause-here : goal.collecting::lmap-returns-in_err-made-clause-here
 collecting::lmap-returns-in_err-made-clause-here g t c = unmoved c.from_residual-in_err-made.result c.args.tree.now c.args.place
 
@@ -3677,14 +3561,8 @@ commands::call_hidden-returns-in_err-command-clause-here g t c = unmoved c.from_
 pub commands::call_procedure-returns-in_err-bindings-clause-here : goal.commands::call_procedure-returns-in_err-bindings-clause-here
 commands::call_procedure-returns-in_err-bindings-clause-here g t c = unmoved c.from_residual.result c.args.tree.now c.args.place
 
-pub commands::call_procedure-returns-in_err-body-clause-here : goal.commands::call_procedure-returns-in_err-body-clause-here
-commands::call_procedure-returns-in_err-body-clause-here g t c = unmoved c.from_residual-in_err-body.result c.args.tree.now c.args.place
-
 pub commands::call_procedure-returns-in_err-words-clause-here : goal.commands::call_procedure-returns-in_err-words-clause-here
 commands::call_procedure-returns-in_err-words-clause-here g t c = unmoved c.from_residual-in_err-words.result c.args.tree.now c.args.place
-
-pub control::catch-returns-in_err-script-clause-here : goal.control::catch-returns-in_err-script-clause-here
-control::catch-returns-in_err-script-clause-here g t c = unmoved c.from_residual.result c.args.tree.now c.args.place
 
 pub control::eval-returns-in_err-script-clause-here : goal.control::eval-returns-in_err-script-clause-here
 control::eval-returns-in_err-script-clause-here g t c = unmoved c.from_residual.result c.args.tree.now c.args.place
@@ -3716,14 +3594,8 @@ expressions::expr-returns-in_err-kept-clause-here g t c = unmoved c.from_residua
 pub expressions::expr-returns-in_err-text-clause-here : goal.expressions::expr-returns-in_err-text-clause-here
 expressions::expr-returns-in_err-text-clause-here g t c = unmoved c.from_residual.result c.args.tree.now c.args.place
 
-pub expressions::for_loop-returns-in_err-start-clause-here : goal.expressions::for_loop-returns-in_err-start-clause-here
-expressions::for_loop-returns-in_err-start-clause-here g t c = unmoved c.from_residual.result c.args.tree.now c.args.place
-
 pub expressions::if_first-returns-in_err-branches-clause-here : goal.expressions::if_first-returns-in_err-branches-clause-here
 expressions::if_first-returns-in_err-branches-clause-here g t c = unmoved c.from_residual.result c.args.tree.now c.args.place
-
-pub expressions::while_loop-returns-in_err-body-clause-here : goal.expressions::while_loop-returns-in_err-body-clause-here
-expressions::while_loop-returns-in_err-body-clause-here g t c = unmoved c.from_residual-in_err-body.result c.args.tree.now c.args.place
 
 pub expressions::while_loop-returns-in_err-test-clause-here : goal.expressions::while_loop-returns-in_err-test-clause-here
 expressions::while_loop-returns-in_err-test-clause-here g t c = unmoved c.from_residual.result c.args.tree.now c.args.place
@@ -3788,9 +3660,6 @@ loops::uplevel-returns-in_err-level-clause-here g t c = unmoved c.from_residual.
 pub loops::uplevel-returns-in_err-script-clause-here : goal.loops::uplevel-returns-in_err-script-clause-here
 loops::uplevel-returns-in_err-script-clause-here g t c = unmoved c.from_residual-in_err-script.result c.args.tree.now c.args.place
 
-pub loops::walk_through-returns-in_err-script-clause-here : goal.loops::walk_through-returns-in_err-script-clause-here
-loops::walk_through-returns-in_err-script-clause-here g t c = unmoved c.from_residual.result c.args.tree.now c.args.place
-
 pub sourcing::read_channel-returns-in_err-clone-clause-here : goal.sourcing::read_channel-returns-in_err-clone-clause-here
 sourcing::read_channel-returns-in_err-clone-clause-here g t c = unmoved c.from_residual.result c.args.tree.now c.args.place
 
@@ -3808,12 +3677,6 @@ switching::switch-returns-in_err-body-clause-here g t c = unmoved c.from_residua
 
 pub trying::handle-returns-in_err-names-clause-here : goal.trying::handle-returns-in_err-names-clause-here
 trying::handle-returns-in_err-names-clause-here g t c = unmoved c.from_residual.result c.args.tree.now c.args.place
-
-pub trying::handled-returns-in_err-script-clause-here : goal.trying::handled-returns-in_err-script-clause-here
-trying::handled-returns-in_err-script-clause-here g t c = unmoved c.from_residual.result c.args.tree.now c.args.place
-
-pub trying::run_handler-returns-in_err-own-clause-here : goal.trying::run_handler-returns-in_err-own-clause-here
-trying::run_handler-returns-in_err-own-clause-here g t c = unmoved c.from_residual.result c.args.tree.now c.args.place
 
 pub trying::try_script-returns-in_err-tried-clause-here : goal.trying::try_script-returns-in_err-tried-clause-here
 trying::try_script-returns-in_err-tried-clause-here g t c = unmoved c.from_residual.result c.args.tree.now c.args.place

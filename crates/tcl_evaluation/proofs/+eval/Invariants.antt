@@ -216,7 +216,6 @@ abbrev pub invariant-expressions::while_loop-turns : goal.invariant-expressions:
 invariant-expressions::while_loop-turns g l = record {
   leads : (p : Path) (style : Integers) → IsAt l.fn.tree l.place p style →
       Leads (ways g.O.Outside.goes g.O.Outside.loses) style (tree_of l.fn.tree) l.fn.outside p (while_loop l.fn.args) (tree_of l.tree) l.outside (while_turns style (get_or l.fn.args 0 []) (get_or l.fn.args 1 []));
-  body : l.body ≡ get_or l.fn.args 1 [];
   here : IsHere l.fn.tree l.tree l.place;
   keeps : Keeps g.O.Outside.entries_left l.fn.tree l.tree l.fn.outside l.outside;
 }
@@ -225,8 +224,6 @@ abbrev pub invariant-expressions::for_loop-turns : goal.invariant-expressions::f
 invariant-expressions::for_loop-turns g l = record {
   leads : (p : Path) (style : Integers) → IsAt l.fn.tree l.place p style →
       Leads (ways g.O.Outside.goes g.O.Outside.loses) style (tree_of l.fn.tree) l.fn.outside p (for_loop l.fn.args) (tree_of l.tree) l.outside (for_turns style (get_or l.fn.args 1 []) (get_or l.fn.args 2 []) (get_or l.fn.args 3 []));
-  next : l.next ≡ get_or l.fn.args 2 [];
-  body : l.body ≡ get_or l.fn.args 3 [];
   here : IsHere l.fn.tree l.tree l.place;
   keeps : Keeps g.O.Outside.entries_left l.fn.tree l.tree l.fn.outside l.outside;
 }
@@ -255,7 +252,6 @@ abbrev pub invariant-loops::walk_through-turns : goal.invariant-loops::walk_thro
 invariant-loops::walk_through-turns g l = record {
   leads : (p : Path) (style : Integers) → IsAt l.fn.tree l.place p style →
       Leads (ways g.O.Outside.goes g.O.Outside.loses) style (tree_of l.fn.tree) l.fn.outside p (foreach_turns (walks_at 0 l.fn.walks) l.fn.body) (tree_of l.tree) l.outside (foreach_turns (walks_at l.turns l.fn.walks) l.fn.body);
-  script : l.script ≡ l.fn.body;
   here : IsHere l.fn.tree l.tree l.place;
   keeps : Keeps g.O.Outside.entries_left l.fn.tree l.tree l.fn.outside l.outside;
 }
@@ -263,8 +259,7 @@ invariant-loops::walk_through-turns g l = record {
 abbrev pub invariant-collecting::lmap-turns : goal.invariant-collecting::lmap-turns
 invariant-collecting::lmap-turns g l = record {
   leads : (p : Path) (style : Integers) → IsAt l.fn.tree l.place p style →
-      Leads (ways g.O.Outside.goes g.O.Outside.loses) style (tree_of l.fn.tree) l.fn.outside p (lmap l.fn.args) (tree_of l.tree) l.outside (lmap_turns (walks_at l.turns l.walks.items) l.initial.body l.made);
-  body : l.body ≡ l.initial.body;
+      Leads (ways g.O.Outside.goes g.O.Outside.loses) style (tree_of l.fn.tree) l.fn.outside p (lmap l.fn.args) (tree_of l.tree) l.outside (lmap_turns (walks_at l.turns l.walks.items) l.body l.made);
   here : IsHere l.fn.tree l.tree l.place;
   keeps : Keeps g.O.Outside.entries_left l.fn.tree l.tree l.fn.outside l.outside;
 }

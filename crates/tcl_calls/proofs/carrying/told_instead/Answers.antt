@@ -1,4 +1,4 @@
-use Rattle.std.proofs.Common.{◌≡◌, ℕ, Option, None, sym, ◌∙◌, ap, subst, refl}
+use Rattle.std.proofs.Common.{◌≡◌, ℕ, Option, sym, ◌∙◌, ap, subst, refl}
 use Rattle.std.specs.Prelude.{Result, List, Err, MatchOption}
 use Rattle.tcl_core.specs.Endings.{Reply, ok}
 use Rattle.tcl_core.specs.Endings.Reply.{Completed}

@@ -1,4 +1,4 @@
-use Rattle.std.proofs.Common.{◌≡◌, Option, rules, sym, ◌∙◌, ap, subst}
+use Rattle.std.proofs.Common.{◌≡◌, rules, ◌∙◌, ap, subst}
 use Rattle.std.proofs.lemmas.Option.{same_Some}
 use Rattle.std.specs.Option.{option_map}
 use Rattle.tcl_core.specs.Trees.{Node, effect}

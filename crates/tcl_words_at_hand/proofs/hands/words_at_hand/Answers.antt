@@ -1,2 +1,1 @@
-use Rattle.tcl_words_at_hand.proofs.Calling.{ends_more}
 use Rattle.tcl_words_at_hand.proofs.hands.words_at_hand.Goals as goal
