@@ -4,7 +4,6 @@ ghost use Rattle.std.specs.Prelude.{◌≡◌, IfOk, codes};
 ghost use Rattle.tcl_language.specs.Expressions.{branches_of, without_first};
 ghost use Rattle.tcl_calls.specs.BranchesRead.{branch_of, first_of, lone, seen};
 
-use smallvec::SmallVec;
 use std::alloc::{AllocError, Global};
 use tcl_value::value::Value;
 
@@ -18,8 +17,8 @@ pub struct Branch<'w> {
 /// The branches of an `if`.
 #[derive(Drop)]
 pub struct Branches<'w> {
-    /// The conditions with their bodies, in order: most have one or two.
-    pub tests: SmallVec<Branch<'w>, 2>,
+    /// The conditions with their bodies, in order.
+    pub tests: Vec<Branch<'w>>,
     /// The body that runs where no condition is true, if there is one.
     pub last: Option<&'w Value>,
 }
@@ -68,7 +67,7 @@ fn last_body(words: &[Value]) -> Option<&Value>
 pub fn branches_of(alloc: Global, words: &[Value]) -> Result<Option<Branches<'_>>, AllocError>
     ensures { IfOk result (λ read. option_map seen read ≡ branches_of words.now) }
 {
-    let mut tests = SmallVec::new(alloc);
+    let mut tests = Vec::new(alloc);
     let mut left = words;
     'branches: loop {
         let Some((branch, behind)) = first_branch(left) else {

@@ -23,7 +23,6 @@ ghost use Rattle.tcl_text.specs.Writing.{written_list};
 ghost use Rattle.tcl_calls.specs.Procedures.{form_of, pairs_of, joined, next_bound, Bound};
 ghost use Rattle.tcl_calls.specs.Procedures.{IsBoundTo, TooLongBound};
 
-use smallvec::SmallVec;
 use std::alloc::{AllocError, Global};
 use tcl_frames::frames::Frames;
 use tcl_lists::commands::list;
@@ -43,9 +42,6 @@ pub struct Binding {
     pub name: Text,
     pub value: Value,
 }
-
-/// What the parameters of a call are bound to: few calls have more than four.
-pub type Bindings = SmallVec<Binding, 4>;
 
 /// Sets the variables of these names in the frame on top. A name that can't be set is left out.
 fn bind_all(frames: &mut Frames, alloc: Global, bindings: &[Binding]) -> Result<(), Interruption>
@@ -112,14 +108,14 @@ pub fn bind(
     alloc: Global,
     parameters: &[Parameter],
     args: &[Value],
-) -> Result<Option<Bindings>, Interruption>
+) -> Result<Option<Vec<Binding>>, Interruption>
     ensures bound { IfOk result
         (λ found. Bound (option_map (λ v. pairs_of v.items) found)
         (bindings parameters.now args.now)) }
     ensures refused { IfErr result
         (λ i. Interrupts i (λ e. TooLongBound (bindings parameters.now args.now) e)) }
 {
-    let mut made = SmallVec::new(alloc);
+    let mut made = Vec::new(alloc);
     let mut rest = parameters;
     let mut left = args;
     'parameters: loop {
@@ -161,10 +157,10 @@ fn next_value<'a>(
 /// The bindings with that of the last parameter.
 fn bind_last(
     alloc: Global,
-    made: Bindings,
+    made: Vec<Binding>,
     parameter: &Parameter,
     left: &[Value],
-) -> Result<Option<Bindings>, Interruption>
+) -> Result<Option<Vec<Binding>>, Interruption>
     requires { fit_all (pairs_of made.items) ≡ true }
     ensures bound { IfOk result
         (λ found. Bound (option_map (λ v. pairs_of v.items) found)

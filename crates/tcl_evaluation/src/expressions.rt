@@ -167,7 +167,7 @@ pub fn if_first<O: Outside>(
     };
     let Branches { tests, last } = branches;
     let mut evaluation = Evaluation::new(alloc);
-    'tests: for branch in tests.as_slice() {
+    'tests: for branch in &tests {
         let test = read_expression(tree, alloc, tree.integers(), branch.test)?;
         if condition(tree, alloc, outside, place, &mut evaluation, &test)? {
             return eval_value(tree, alloc, outside, place, branch.body);

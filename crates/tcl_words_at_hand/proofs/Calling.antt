@@ -52,7 +52,7 @@ module _ {S : Type 0} {ways : Ways S} (style : Integers) where
   -- ## The words of a call
 
   -- where none is a sum, all stand for texts
-  none_sums : (n : Node Own) (ws : List WordRead) (ts : List (List ℕ)) → AllEnd style n ws false ts → AllStand n.own.chain.frames ws ts
+  pub none_sums : (n : Node Own) (ws : List WordRead) (ts : List (List ℕ)) → AllEnd style n ws false ts → AllStand n.own.chain.frames ws ts
   none_sums n [] [] h = tt
   none_sums n [] (x ∷ ts) h = elim h [ ]
   none_sums n (w ∷ ws) [] h = elim h [ ]
@@ -91,30 +91,28 @@ module _ {S : Type 0} {ways : Ways S} (style : Integers) where
       word_stays style w ws before e stays
       (at_prog (ap (λ (ps : List Part). parts ps [] []) h.1.3) (script_stays style h.1.2 [] [] [] e stays (s h.1.2 x h.1.4)))
 
--- ## One word more
+-- ## Words behind others
 
-all_stand_more : (frames : Levels) (ws : List WordRead) (ts : List (List ℕ)) (w : WordRead) (x : List ℕ) → AllStand frames ws ts → StandsFor frames w x → AllStand frames (ws ++ w ∷ []) (ts ++ x ∷ [])
-all_stand_more frames [] [] w x h s = (s, tt)
-all_stand_more frames [] (y ∷ ts) w x h s = elim h [ ]
-all_stand_more frames (v ∷ ws) [] w x h s = elim h [ ]
-all_stand_more frames (v ∷ ws) (y ∷ ts) w x h s = (h.0, all_stand_more frames ws ts w x h.1 s)
+all_append : (frames : Levels) (ws vs : List WordRead) (ts us : List (List ℕ)) → AllStand frames ws ts → AllStand frames vs us → AllStand frames (ws ++ vs) (ts ++ us)
+all_append frames [] vs [] us h k = k
+all_append frames [] vs (x ∷ ts) us h k = elim h [ ]
+all_append frames (w ∷ ws) vs [] us h k = elim h [ ]
+all_append frames (w ∷ ws) vs (x ∷ ts) us h k = (h.0, all_append frames ws vs ts us h.1 k)
 
-stands_more : (style : Integers) (n : Node Own) (ws : List WordRead) (ts : List (List ℕ)) (sums : Bool) (w : WordRead) (x : List ℕ) → AllEnd style n ws sums ts → StandsFor n.own.chain.frames w x → AllEnd style n (ws ++ w ∷ []) sums (ts ++ x ∷ [])
-stands_more style n [] [] sums w x h s = inl (s, h)
-stands_more style n [] (y ∷ ts) sums w x h s = elim h [ ]
-stands_more style n (v ∷ ws) [] sums w x h s = elim h [ ]
-stands_more style n (v ∷ ws) (y ∷ ts) sums w x (inl h) s = inl (h.0, stands_more style n ws ts sums w x h.1 s)
-stands_more style n (v ∷ ws) (y ∷ ts) sums w x (inr h) s = inr (h.0, h.1, all_stand_more n.own.chain.frames ws ts w x h.2 s)
+only_first : (b c : Bool) → one_of true b ≡ Some c → (b ≡ false) × (c ≡ true)
+only_first true c e = let clash : None ≡ Some c = e in cc
+only_first false c e = let same : true ≡ c = cc in (refl, sym same)
 
-sum_more : (style : Integers) (n : Node Own) (ws : List WordRead) (ts : List (List ℕ)) (w : WordRead) (x : List ℕ) → AllEnd style n ws false ts → IsSumWord style n w x → AllEnd style n (ws ++ w ∷ []) true (ts ++ x ∷ [])
-sum_more style n [] [] w x h s = inr (refl, s, tt)
-sum_more style n [] (y ∷ ts) w x h s = elim h [ ]
-sum_more style n (v ∷ ws) [] w x h s = elim h [ ]
-sum_more style n (v ∷ ws) (y ∷ ts) w x (inl h) s = inl (h.0, sum_more style n ws ts w x h.1 s)
-sum_more style n (v ∷ ws) (y ∷ ts) w x (inr h) s = let clash : false ≡ true = h.0 in cc
+pub ends_one : (style : Integers) (n : Node Own) (w : WordRead) (b : Bool) (x : List ℕ) → EndsAs style n w b x → AllEnd style n (w ∷ []) b (x ∷ [])
+ends_one style n w false x h = inl (h, refl)
+ends_one style n w true x h = inr (refl, h, tt)
 
-pub ends_more : (style : Integers) (n : Node Own) (ws : List WordRead) (ts : List (List ℕ)) (a b c : Bool) (w : WordRead) (x : List ℕ) → one_of a b ≡ Some c → AllEnd style n ws a ts → EndsAs style n w b x → AllEnd style n (ws ++ w ∷ []) c (ts ++ x ∷ [])
-ends_more style n ws ts true true c w x e h s = let clash : None ≡ Some c = e in cc
-ends_more style n ws ts true false c w x e h s = let same : true ≡ c = cc in subst (λ (b : Bool). AllEnd style n (ws ++ w ∷ []) b (ts ++ x ∷ [])) same (stands_more style n ws ts true w x h s)
-ends_more style n ws ts false true c w x e h s = let same : true ≡ c = cc in subst (λ (b : Bool). AllEnd style n (ws ++ w ∷ []) b (ts ++ x ∷ [])) same (sum_more style n ws ts w x h s)
-ends_more style n ws ts false false c w x e h s = let same : false ≡ c = cc in subst (λ (b : Bool). AllEnd style n (ws ++ w ∷ []) b (ts ++ x ∷ [])) same (stands_more style n ws ts false w x h s)
+pub ends_append : (style : Integers) (n : Node Own) (ws vs : List WordRead) (ts us : List (List ℕ)) (a b c : Bool) → one_of a b ≡ Some c → AllEnd style n ws a ts → AllEnd style n vs b us → AllEnd style n (ws ++ vs) c (ts ++ us)
+ends_append style n [] vs [] us true b c e h k = let clash : true ≡ false = h in cc
+ends_append style n [] vs [] us false b c e h k = let same : b ≡ c = cc in subst (λ (x : Bool). AllEnd style n vs x us) same k
+ends_append style n [] vs (x ∷ ts) us a b c e h k = elim h [ ]
+ends_append style n (w ∷ ws) vs [] us a b c e h k = elim h [ ]
+ends_append style n (w ∷ ws) vs (x ∷ ts) us a b c e (inl h) k = inl (h.0, ends_append style n ws vs ts us a b c e h.1 k)
+ends_append style n (w ∷ ws) vs (x ∷ ts) us a b c e (inr h) k =
+    let only = only_first b c (ap (λ (y : Bool). one_of y b) (sym h.0) ∙ e) in
+    inr (only.1, h.1, all_append n.own.chain.frames ws vs ts us h.2 (none_sums style n vs us (subst (λ (y : Bool). AllEnd style n vs y us) only.0 k)))

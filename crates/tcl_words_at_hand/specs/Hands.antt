@@ -24,6 +24,8 @@ use Rattle.tcl_tree.specs.declared.tree.Place.{Place}
 use Rattle.tcl_tree.specs.declared.tree.Tree.{Tree as Table}
 use Rattle.tcl_value.specs.Texts.{AllWithin}
 use Rattle.tcl_calls.specs.Expressions.{IsKept}
+use Rattle.tcl_words_at_hand.specs.declared.hands.Values.{Values}
+use Rattle.tcl_words_at_hand.specs.declared.hands.Values.TheVariants as variant
 use Rattle.tcl_calls.specs.Found.{found}
 
 -- ## Words
@@ -120,3 +122,10 @@ abbrev pub one_of : Bool → Bool → Option Bool
 one_of true true = None
 one_of true false = Some true
 one_of false other = Some other
+
+-- the texts of up to four words
+abbrev pub texts_of : Values → List Text
+texts_of (variant.One texts) = texts
+texts_of (variant.Two texts) = texts
+texts_of (variant.Three texts) = texts
+texts_of (variant.Four texts) = texts

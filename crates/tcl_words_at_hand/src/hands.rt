@@ -6,9 +6,8 @@ ghost use Rattle.tcl_language.specs.Instructions.{fits};
 ghost use Rattle.tcl_parser.specs.declared.script.Part.TheVariants.{Script};
 ghost use Rattle.tcl_prepared.specs.Views.{seen_word};
 ghost use Rattle.tcl_words_at_hand.specs.Hands.{AllEndIn, EndsIn, IsSumIn, Named};
-ghost use Rattle.tcl_words_at_hand.specs.Hands.{StandsFor, one_of};
+ghost use Rattle.tcl_words_at_hand.specs.Hands.{StandsFor, one_of, texts_of};
 
-use smallvec::SmallVec;
 use std::alloc::Global;
 use tcl_calls::expressions::{number_at, read_expression};
 use tcl_calls::lookup::kept_name;
@@ -143,11 +142,32 @@ fn end_at_hand(
     Some((word_at_hand(tree, place, word)?, false))
 }
 
+/// The values of up to four words.
+#[derive(Drop)]
+pub enum Values {
+    One([Value; 1]),
+    Two([Value; 2]),
+    Three([Value; 3]),
+    Four([Value; 4]),
+}
+
+impl Values {
+    pub fn as_slice(&self) -> &[Value]
+        ensures { result.now ≡ texts_of self.now }
+    {
+        match self {
+            Values::One(values) => values,
+            Values::Two(values) => values,
+            Values::Three(values) => values,
+            Values::Four(values) => values,
+        }
+    }
+}
+
 /// What words stand for that are at hand.
 #[derive(Drop)]
 pub struct WordsAtHand {
-    /// Their values.
-    pub values: SmallVec<Value, 4>,
+    pub values: Values,
     /// Whether one of them is a sum in brackets, which isn't counted yet.
     pub sums: bool,
 }
@@ -163,7 +183,23 @@ fn one_of(first: bool, second: bool) -> Option<bool>
     }
 }
 
-/// What these words stand for, where each of them is at hand, and at most one is a sum.
+/// What two words stand for, as [`words_at_hand`].
+fn two_at_hand(
+    tree: &Tree,
+    alloc: Global,
+    place: Place,
+    first: &PreparedWord,
+    second: &PreparedWord,
+) -> Option<(Value, Value, bool)>
+    ensures { IfSome result (λ hand. AllEndIn tree.now place
+        (seen_word first.now ∷ seen_word second.now ∷ []) hand.2 (hand.0 ∷ hand.1 ∷ [])) }
+{
+    let (value, sum) = end_at_hand(tree, alloc, place, first)?;
+    let (other, other_sum) = end_at_hand(tree, alloc, place, second)?;
+    Some((value, other, one_of(sum, other_sum)?))
+}
+
+/// What these one to four words stand for, where each of them is at hand, and at most one is a sum.
 pub fn words_at_hand(
     tree: &Tree,
     alloc: Global,
@@ -171,14 +207,33 @@ pub fn words_at_hand(
     words: &[PreparedWord],
 ) -> Option<WordsAtHand>
     ensures { IfSome result (λ hand. AllEndIn tree.now place (map seen_word words.now) hand.sums
-        hand.values.items) }
+        (texts_of hand.values)) }
 {
-    let mut values = SmallVec::new(alloc);
-    let mut sums = false;
-    'words: for word in words {
-        let (value, is_sum) = end_at_hand(tree, alloc, place, word)?;
-        sums = one_of(sums, is_sum)?;
-        values.push(value).ok()?;
+    match words {
+        [word] => {
+            let (value, sums) = end_at_hand(tree, alloc, place, word)?;
+            let values = Values::One([value]);
+            Some(WordsAtHand { values, sums })
+        }
+        [first, second] => {
+            let (a, b, sums) = two_at_hand(tree, alloc, place, first, second)?;
+            let values = Values::Two([a, b]);
+            Some(WordsAtHand { values, sums })
+        }
+        [first, second, third] => {
+            let (a, b, sum) = two_at_hand(tree, alloc, place, first, second)?;
+            let (c, last) = end_at_hand(tree, alloc, place, third)?;
+            let values = Values::Three([a, b, c]);
+            let sums = one_of(sum, last)?;
+            Some(WordsAtHand { values, sums })
+        }
+        [first, second, third, fourth] => {
+            let (a, b, sum) = two_at_hand(tree, alloc, place, first, second)?;
+            let (c, d, last) = two_at_hand(tree, alloc, place, third, fourth)?;
+            let values = Values::Four([a, b, c, d]);
+            let sums = one_of(sum, last)?;
+            Some(WordsAtHand { values, sums })
+        }
+        _ => None,
     }
-    Some(WordsAtHand { values, sums })
 }

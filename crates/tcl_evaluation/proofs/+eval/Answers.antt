@@ -161,7 +161,7 @@ use Rattle.tcl_words_at_hand.proofs.Plainly.{acts_proceeds, sum_in, unchanged_ru
 use Rattle.tcl_words_at_hand.specs.Sums.{CallsAtHand, CallsBuiltin, CallsNamed}
 use Rattle.std.proofs.Common.{Bool}
 use Rattle.tcl_parser.specs.Reading.{read_script}
-use Rattle.tcl_words_at_hand.specs.Hands.{AllEnd, IsNamed}
+use Rattle.tcl_words_at_hand.specs.Hands.{AllEnd, IsNamed, texts_of}
 use Rattle.tcl_words_at_hand.proofs.Calling as Calls
 use Rattle.tcl_words_at_hand.proofs.Own.{charged_own, named_own}
 use Rattle.tcl_words_at_hand.proofs.Plainly.{there_at}
@@ -349,7 +349,7 @@ at_hand::call_on_hand-returns-clause-runs g t c =
 pub at_hand::call_at_hand-returns-clause-runs : goal.at_hand::call_at_hand-returns-clause-runs
 at_hand::call_at_hand-returns-clause-runs g t c =
     let rest = take (length c.args.words.now - 1) (drop 1 c.args.words.now) in
-    let values = c.in_ok-hand.hand.values.items in
+    let values = texts_of c.in_ok-hand.hand.values in
     IfRan-more c.call_on_hand.result
     (CallsAtHand (ways g.O.Outside.goes g.O.Outside.loses) c.args.tree.now c.args.outside.now c.args.place c.in_ok-command.command c.in-Literal.name c.in_ok-hand.hand.sums c.as_slice-args.result.now c.call_on_hand.new.tree c.call_on_hand.new.outside)
     (EndsFrom (ways g.O.Outside.goes g.O.Outside.loses) c.args.tree.now c.args.outside.now c.args.place (λ style. words (map seen_word c.args.words.now) []) c.call_on_hand.new.tree c.call_on_hand.new.outside)

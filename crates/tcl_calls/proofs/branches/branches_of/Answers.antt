@@ -20,7 +20,7 @@ returns-in_default-behind c =
     let x = branch_of c.in-Some.branch in
     let tests = tests_of c.branches.tests.items in
     let first : first_of c.branches.left.now ≡ Some (x, c.in-Some.behind.now) = search rules in
-    let made : tests_of c.push.new.self.items ≡ tests ++ x ∷ [] = ap tests_of c.in_ok-push.ensures.ok ∙ map-append branch_of c.branches.tests.items _ in
+    let made : tests_of c.push.new.self.items ≡ tests ++ x ∷ [] = ap tests_of c.in_ok-push.ensures.items ∙ map-append branch_of c.branches.tests.items _ in
     let step = one_first i.0 c.branches.left.now x c.in-Some.behind.now tests i.1 first in
     ap (λ (ts : List (Text × Text)). Some (record { tests = ts; last = None })) made ∙ sym (is_end (tests ++ x ∷ []) (branches_within step.0) c.in-Some.behind.now (no_words _ c.in_default-behind.len_below)) ∙ sym step.2 ∙ i.2
 
@@ -43,7 +43,7 @@ returns-then-not-is_text c =
     let x = branch_of c.in-Some.branch in
     let tests = tests_of c.branches.tests.items in
     let first : first_of c.branches.left.now ≡ Some (x, c.in-Some.behind.now) = search rules in
-    let made : tests_of c.push.new.self.items ≡ tests ++ x ∷ [] = ap tests_of c.in_ok-push.ensures.ok ∙ map-append branch_of c.branches.tests.items _ in
+    let made : tests_of c.push.new.self.items ≡ tests ++ x ∷ [] = ap tests_of c.in_ok-push.ensures.items ∙ map-append branch_of c.branches.tests.items _ in
     let step = one_first i.0 c.branches.left.now x c.in-Some.behind.now tests i.1 first in
     let word = split c.in-Some.behind.now c.word-item.result c.in-len1-up.len_at_least c.word-item.is in
     let other : bytes_eq c.word-item.result (codes "elseif") ≡ false = search rules in
@@ -58,7 +58,7 @@ branches-preserved c =
     let x = branch_of c.in-Some.branch in
     let tests = tests_of c.branches.tests.items in
     let first : first_of c.branches.left.now ≡ Some (x, c.in-Some.behind.now) = search rules in
-    let made : tests_of c.push.new.self.items ≡ tests ++ x ∷ [] = ap tests_of c.in_ok-push.ensures.ok ∙ map-append branch_of c.branches.tests.items _ in
+    let made : tests_of c.push.new.self.items ≡ tests ++ x ∷ [] = ap tests_of c.in_ok-push.ensures.items ∙ map-append branch_of c.branches.tests.items _ in
     let step = one_first i.0 c.branches.left.now x c.in-Some.behind.now tests i.1 first in
     let rest = take (length c.in-Some.behind.now - 1) (drop 1 c.in-Some.behind.now) in
     let word = split c.in-Some.behind.now c.word-item.result c.in-len1-up.len_at_least c.word-item.is in

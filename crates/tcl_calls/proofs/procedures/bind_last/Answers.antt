@@ -18,8 +18,8 @@ returns-clause-bound c =
     let name = c.in_ok-clone.ensures.cases in
     let value = c.known_short.ensures.same in
     let made : pairs_of c.push.new.self.items ≡ pairs_of c.args.made.items ++ (c.args.parameter.now.name, c.in-Some.value) ∷ [] =
-    ap pairs_of c.in_ok-push.ensures.ok ∙ pairs_more c.args.made.items _ ∙ (λ i. pairs_of c.args.made.items ++ (name i, value i) ∷ []) in
+    ap pairs_of c.in_ok-push.ensures.items ∙ pairs_more c.args.made.items _ ∙ (λ i. pairs_of c.args.made.items ++ (name i, value i) ∷ []) in
     let given : last_bound (is_rest c.args.parameter.now.name) c.args.parameter.now c.args.left.now ≡ Some ((c.args.parameter.now.name, c.in-Some.value) ∷ []) = rw c.in-Some.is at c.in_ok-value.ensures.bound in (
       ap (joined (pairs_of c.args.made.items)) given ∙ ap Some (sym made),
-      ap fit_all (ap pairs_of c.in_ok-push.ensures.ok ∙ pairs_more c.args.made.items _) ∙ fit_more (pairs_of c.args.made.items) _ c.requires (ap fits value ∙ c.known_short.ensures.short),
+      ap fit_all (ap pairs_of c.in_ok-push.ensures.items ∙ pairs_more c.args.made.items _) ∙ fit_more (pairs_of c.args.made.items) _ c.requires (ap fits value ∙ c.known_short.ensures.short),
     )
