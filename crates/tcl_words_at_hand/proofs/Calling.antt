@@ -1,5 +1,5 @@
 -- What calls come to whose words are at hand.
-use Rattle.std.proofs.Common.{◌≡◌, ◌⊎◌, inl, inr, ℕ, true, false, List, [], ◌∷◌, ◌++◌, Some, refl, sym, ap, append-nil, append_assoc}
+use Rattle.std.proofs.Common.{◌≡◌, ◌⊎◌, inl, inr, ℕ, Bool, true, false, List, [], ◌∷◌, ◌++◌, Some, None, refl, sym, ◌∙◌, ap, subst, append-nil, append_assoc}
 use Rattle.std.specs.Prelude.{Ok}
 use Rattle.tcl_core.specs.Paths.{Path}
 use Rattle.tcl_core.specs.Endings.{ok}
@@ -29,6 +29,14 @@ use Rattle.tcl_words_at_hand.proofs.Steps.{lone, script_goes, script_stays, sing
 pub literal_stands : (frames : Levels) (word : WordRead) (text : List ℕ) → word ≡ literal_word text → fits text ≡ true → StandsFor frames word text
 literal_stands frames word text e f = record { single = ap (λ (w : WordRead). w.expand) e; short = f; by = inl (ap (λ (w : WordRead). w.parts) e) }
 
+-- where none of the words is a sum, all stand for texts
+pub none_sums : (style : Integers) (n : Node Own) (ws : List WordRead) (ts : List (List ℕ)) → AllEnd style n ws false ts → AllStand n.own.chain.frames ws ts
+none_sums style n [] [] h = tt
+none_sums style n [] (x ∷ ts) h = elim h [ ]
+none_sums style n (w ∷ ws) [] h = elim h [ ]
+none_sums style n (w ∷ ws) (x ∷ ts) (inl h) = (h.0, none_sums style n ws ts h.1)
+none_sums style n (w ∷ ws) (x ∷ ts) (inr h) = let clash : false ≡ true = h.0 in cc
+
 module _ {S : Type 0} {ways : Ways S} (style : Integers) where
   -- ## Words that stand for texts
 
@@ -51,17 +59,9 @@ module _ {S : Type 0} {ways : Ways S} (style : Integers) where
 
   -- ## The words of a call
 
-  -- where none is a sum, all stand for texts
-  pub none_sums : (n : Node Own) (ws : List WordRead) (ts : List (List ℕ)) → AllEnd style n ws false ts → AllStand n.own.chain.frames ws ts
-  none_sums n [] [] h = tt
-  none_sums n [] (x ∷ ts) h = elim h [ ]
-  none_sums n (w ∷ ws) [] h = elim h [ ]
-  none_sums n (w ∷ ws) (x ∷ ts) (inl h) = (h.0, none_sums n ws ts h.1)
-  none_sums n (w ∷ ws) (x ∷ ts) (inr h) = let clash : false ≡ true = h.0 in cc
-
   pub plain_goes : {T V : Tree Own} {o z : S} {p : Path} {n : Node Own} {r : Ending} (ws : List WordRead) (ts : List (List ℕ)) → T p ≡ Some n → AllEnd style n ws false ts →
       Proceeds ways (language style) T o p (words [] ts) V z r → Proceeds ways (language style) T o p (words ws []) V z r
-  plain_goes {n = n} ws ts there h t = at_prog (ap (λ (x : List WordRead). words x []) (sym (append-nil ws))) (all_stand ws [] [] ts there (none_sums n ws ts h) t)
+  plain_goes {n = n} ws ts there h t = at_prog (ap (λ (x : List WordRead). words x []) (sym (append-nil ws))) (all_stand ws [] [] ts there (none_sums style n ws ts h) t)
 
   -- a sum among them is counted, which changes no own part
   pub sum_goes : {T U V : Tree Own} {o u z : S} {p : Path} {n m : Node Own} {r : Ending} (ws : List WordRead) (before ts : List (List ℕ)) → T p ≡ Some n → AllEnd style n ws true ts →
