@@ -1,5 +1,5 @@
 //! The commands that words name.
-ghost use Rattle.std.specs.Prelude.{◌≡◌, IfOk, Some, None};
+ghost use Rattle.std.specs.Prelude.{◌≡◌, IfOk, IfSome, Some, None, Ok};
 ghost use Rattle.tcl_core.specs.Paths.{Path};
 ghost use Rattle.tcl_core.specs.Trees as core;
 ghost use Rattle.tcl_language.specs.Naming.{command_name, without_colons};
@@ -46,6 +46,36 @@ pub fn kept_name(alloc: Global, word: &Value) -> Result<Option<Text>, AllocError
     }
 }
 
+/// The command that a word names in the interpreter, where it stands at the place that the word
+/// keeps. This takes no memory.
+fn standing<'t>(tree: &'t Tree, place: Place, word: &Value) -> Option<&'t Command>
+    ensures { IfSome result (λ command. (p : Path) (n : core.Node Own) → Names tree.now place p →
+        tree_of tree.now p ≡ Some n → found n word.now ≡ Ok command.now) }
+{
+    let (name, command) = tree.command_kept(place, word)?;
+    if with_colons(name.as_str()) {
+        return None;
+    }
+    Some(command)
+}
+
+/// The command that a word names in the interpreter, if it names one. Where memory is wanting,
+/// none.
+#[inline(never)]
+pub fn command_named(tree: &Tree, alloc: Global, place: Place, word: &Value) -> Option<Command>
+    ensures { IfSome result (λ command. (p : Path) (n : core.Node Own) → Names tree.now place p →
+        tree_of tree.now p ≡ Some n → found n word.now ≡ Ok command) }
+{
+    if let Some(command) = standing(tree, place, word) {
+        return command.clone().ok();
+    }
+    let Ok(Some(name)) = kept_name(alloc, word) else {
+        return None;
+    };
+    let command = tree.command_near(place, &name)?;
+    command.clone().ok()
+}
+
 /// The command that a word names in the interpreter, in less time where it stands at the place that
 /// the word keeps.
 #[inline(never)]
@@ -58,6 +88,9 @@ pub fn find_command(
     ensures { (p : Path) (n : core.Node Own) → Names tree.now place p →
         tree_of tree.now p ≡ Some n → Gave itself (found n word.now) result }
 {
+    if let Some(command) = standing(tree, place, word) {
+        return Ok(command.clone()?);
+    }
     let Some(name) = kept_name(alloc, word)? else {
         return Err(bad_name(alloc, word.text(alloc)?.as_str()));
     };

@@ -18,7 +18,15 @@ use Rattle.tcl_run.specs.Ends.{IsFailure, Stays, itself}
 use Rattle.tcl_run.specs.Plain.{Does}
 use Rattle.tcl_run.specs.Runs.{Proceeds, Ways}
 use Rattle.tcl_run.proofs.Proceeding.{
-    IsQuitting, at_prog, at_start, goes_done, goes_on, grows, passed, read_fails, reads_on
+  IsQuitting,
+  at_prog,
+  at_start,
+  goes_done,
+  goes_on,
+  grows,
+  passed,
+  read_fails,
+  reads_on,
 }
 use Rattle.tcl_text.specs.Lists.{list_of}
 use Rattle.tcl_text.specs.Writing.{fault_message}

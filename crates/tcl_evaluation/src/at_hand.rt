@@ -8,6 +8,7 @@ ghost use Rattle.tcl_words_at_hand.specs.Sums.{CallsAtHand, CallsNamed};
 
 use crate::commands::call_command;
 use std::alloc::Global;
+use tcl_calls::lookup::command_named;
 use tcl_prepared::prepared::PreparedWord;
 use tcl_run::interruption::Interruption;
 use tcl_run::outside::Outside;
@@ -16,7 +17,7 @@ use tcl_tree::command::Command;
 use tcl_tree::tree::{Place, Tree};
 use tcl_value::value::Value;
 use tcl_words_at_hand::calls::call_plain_command;
-use tcl_words_at_hand::hands::{command_named, plain_builtin, words_at_hand};
+use tcl_words_at_hand::hands::{plain_builtin, words_at_hand};
 use tcl_words_at_hand::sums::count_sum;
 
 /// Makes a step and calls a command that a word names.

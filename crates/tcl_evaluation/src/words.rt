@@ -11,6 +11,7 @@ use crate::at_hand::{call_at_hand, call_named};
 use crate::commands::call;
 use crate::evaluation::eval_word;
 use std::alloc::Global;
+use tcl_calls::lookup::command_named;
 use tcl_calls::words::spread;
 use tcl_prepared::prepared::PreparedWord;
 use tcl_run::interruption::Interruption;
@@ -18,7 +19,6 @@ use tcl_run::outside::Outside;
 use tcl_run::steps::{charge, on_ok};
 use tcl_tree::tree::{Place, Tree};
 use tcl_value::value::Value;
-use tcl_words_at_hand::hands::command_named;
 
 /// Makes a step and calls the command that the first of these texts names. No texts are no command.
 ///

@@ -1,7 +1,7 @@
+mod Alone
 pub mod Calling
 pub mod Computing
 pub mod Found
-mod Naming
 pub mod Own
 pub mod Plainly
 pub mod Steps

@@ -50,11 +50,6 @@ AllStand frames (w ∷ words) (t ∷ texts) = StandsFor frames w t × AllStand f
 abbrev pub IsNamed : Node Own → Text → Command → Type 0
 IsNamed n word named = found n word ≡ Ok named
 
--- and so in the interpreter that a place names
-abbrev pub Named : Table → Place → Text → Command → Type 0
-Named t place word named = (p : Path) (n : Node Own) → Names t place p → tree_of t p ≡ Some n →
-    IsNamed n word named
-
 -- ## Sums: scripts that are one `expr` of numbers at hand
 
 -- The script is one command of two words that stand for themselves: the first names `expr`, and the

@@ -5,12 +5,12 @@ ghost use Rattle.tcl_interpreter.specs.declared.command.Command.TheVariants as v
 ghost use Rattle.tcl_language.specs.Instructions.{fits};
 ghost use Rattle.tcl_parser.specs.declared.script.Part.TheVariants.{Script};
 ghost use Rattle.tcl_prepared.specs.Views.{seen_word};
-ghost use Rattle.tcl_words_at_hand.specs.Hands.{AllEndIn, EndsIn, IsSumIn, Named};
+ghost use Rattle.tcl_words_at_hand.specs.Hands.{AllEndIn, EndsIn, IsSumIn};
 ghost use Rattle.tcl_words_at_hand.specs.Hands.{StandsFor, one_of, texts_of};
 
 use std::alloc::Global;
 use tcl_calls::expressions::{number_at, read_expression};
-use tcl_calls::lookup::kept_name;
+use tcl_calls::lookup::command_named;
 use tcl_calls::scripts::{hand_place, script_of};
 use tcl_frames::frames::Frames;
 use tcl_prepared::prepared::{Bracket, Prepared, PreparedCommand, PreparedPart, PreparedWord};
@@ -44,15 +44,6 @@ pub fn plain_builtin(command: &Command) -> Option<Builtin>
         Command::Builtin(builtin) if is_plain(*builtin) => Some(*builtin),
         _ => None,
     }
-}
-
-/// The command that a word names in the interpreter, if it names one. Where memory is wanting,
-/// none.
-pub fn command_named(tree: &Tree, alloc: Global, place: Place, word: &Value) -> Option<Command>
-    ensures { IfSome result (λ named. Named tree.now place word.now named) }
-{
-    let name = kept_name(alloc, word).ok()??;
-    tree.command_near(place, &name)?.clone().ok()
 }
 
 /// What a word stands for over these frames, where it stands for itself or for a variable of the

@@ -26,6 +26,20 @@ fn standing<'a>(commands: &'a Commands, place: usize, name: &Text) -> Option<&'a
     None
 }
 
+/// The command that a word names, where it stands at the place that the word's text keeps, with its
+/// name as it stands there.
+fn kept<'a>(commands: &'a Commands, word: &Value) -> Option<(&'a Text, &'a Command)>
+    ensures name { IfSome result (λ found. found.0.now ≡ word.now) }
+    ensures command { IfSome result
+        (λ found. lookup (bytes_eq word.now) commands.now.entries ≡ Some found.1.now) }
+{
+    let (name, command) = commands.get_index(word.place()?)?;
+    if word.is_text(name.as_str().as_bytes()) {
+        return Some((name, command));
+    }
+    None
+}
+
 /// What a name stands for, in less time where it stands at the place that the name keeps. Where it
 /// is found elsewhere, the name keeps that place.
 fn found_near<'a>(commands: &'a Commands, name: &Text) -> Option<&'a Command>
@@ -73,6 +87,19 @@ impl Tree {
     {
         let node = self.nodes.get(place.key)?;
         found_near(&node.state.commands, name)
+    }
+
+    /// The command of this name, where it stands at the place among the commands that the name's
+    /// text keeps, with the name as it stands there. This takes no memory.
+    pub fn command_kept(&self, place: Place, name: &Value) -> Option<(&Text, &Command)>
+        ensures name { IfSome result (λ found. found.0.now ≡ name.now) }
+        ensures command { IfSome result (λ found. (p : List (List ℕ)) → Names self.now place p →
+            Some found.1.now ≡ option_and_then
+            (λ n. command_in n.own name.now) (tree_of self.now p)) }
+    {
+        let node = self.nodes.get(place.key)?;
+        let (found, command) = kept(&node.state.commands, name)?;
+        Some((found, command))
     }
 
     /// What a name stands for among the hidden commands of the interpreter that the place names.

@@ -13,7 +13,7 @@ use Rattle.tcl_text.proofs.Items.{one_item, split_first}
 use Rattle.tcl_value.specs.Texts.{AllWithin}
 use Rattle.tcl_calls.specs.Expressions.{IsKept}
 use Rattle.tcl_words_at_hand.specs.Hands.{IsNamed}
-use Rattle.tcl_words_at_hand.proofs.Naming.{only_item}
+use Rattle.tcl_words_at_hand.proofs.Alone.{only_item}
 use Rattle.tcl_words_at_hand.proofs.hands.sum_at_hand.Goals as goal
 
 pub returns-clause-at_hand : goal.returns-clause-at_hand

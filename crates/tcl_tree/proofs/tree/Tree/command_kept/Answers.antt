@@ -1,0 +1,9 @@
+use Rattle.std.proofs.Common.{sym, ◌∙◌, ap}
+use Rattle.std.specs.Option.{option_and_then}
+use Rattle.tcl_interpreter.specs.Own.{command_in}
+use Rattle.tcl_tree.specs.Nodes.{NodeView}
+use Rattle.tcl_tree.proofs.StepLemmas.{tree_some}
+use Rattle.tcl_tree.proofs.tree.Tree.command_kept.Goals as goal
+
+pub returns-clause-command : goal.returns-clause-command
+returns-clause-command c = λ p at. sym c.in_ok-found.ensures.command ∙ sym (ap (option_and_then (λ (n : NodeView). command_in n.own c.args.name.now)) (tree_some _ _ p _ _ at (sym c.in_ok-node.ensures)))
