@@ -16,6 +16,10 @@ tests_of bs = map branch_of bs
 abbrev pub seen : read.Branches → Branches
 seen b = record { tests = tests_of b.tests.items; last = option_copied b.last }
 
+-- the branches of an `if` with one condition
+abbrev pub alone : Text × Text → Option Text → Branches
+alone branch last = record { tests = branch ∷ []; last = last }
+
 -- these conditions, and then others
 abbrev pub behind : List (Text × Text) → Option Branches → Option Branches
 behind tests None = None

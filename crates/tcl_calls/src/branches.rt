@@ -1,8 +1,8 @@
 //! The branches that the words of an `if` are.
 ghost use Rattle.std.specs.Option.{option_copied, option_map};
-ghost use Rattle.std.specs.Prelude.{◌≡◌, IfOk, codes};
+ghost use Rattle.std.specs.Prelude.{◌≡◌, IfOk, IfSome, Some, codes};
 ghost use Rattle.tcl_language.specs.Expressions.{branches_of, without_first};
-ghost use Rattle.tcl_calls.specs.BranchesRead.{branch_of, first_of, lone, seen};
+ghost use Rattle.tcl_calls.specs.BranchesRead.{alone, branch_of, first_of, lone, seen};
 
 use std::alloc::{AllocError, Global};
 use tcl_value::value::Value;
@@ -55,6 +55,21 @@ fn last_body(words: &[Value]) -> Option<&Value>
 {
     match without_first(b"else", words) {
         [body] => Some(body),
+        _ => None,
+    }
+}
+
+/// The condition and the body of an `if` that has no other condition, and the body that stands
+/// behind `else`, if there is one: where this is plain to see.
+pub fn one_branch(words: &[Value]) -> Option<(Branch<'_>, Option<&Value>)>
+    ensures { IfSome result
+        (λ x. branches_of words.now ≡ Some (alone (branch_of x.0) (option_copied x.1))) }
+{
+    match words {
+        [test, body] if !body.is_text(b"then") => Some((Branch { test, body }, None)),
+        [test, body, word, last] if !body.is_text(b"then") && word.is_text(b"else") => {
+            Some((Branch { test, body }, Some(last)))
+        }
         _ => None,
     }
 }

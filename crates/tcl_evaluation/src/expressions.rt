@@ -1,5 +1,7 @@
 //! Expressions, and the commands with conditions.
-ghost use Rattle.std.specs.Prelude.{MatchResult};
+ghost use Rattle.std.specs.Option.{option_copied};
+ghost use Rattle.std.specs.Prelude.{◌∷◌, [], MatchResult};
+ghost use Rattle.tcl_calls.specs.BranchesRead.{branch_of};
 ghost use Rattle.tcl_language.specs.Expressions as expressions;
 ghost use Rattle.tcl_run.specs.Ends.{Breaks, OnCompletion};
 ghost use Rattle.tcl_run.specs.Runs.{IsHere, IsRunning, Keeps, ProceedsIn, ways};
@@ -9,7 +11,7 @@ ghost use Rattle.tcl_evaluation.specs.Conditional.{TurnBreaks};
 use crate::evaluation::eval_value;
 use crate::operands::eval_operand;
 use std::alloc::Global;
-use tcl_calls::branches::{Branches, branches_of};
+use tcl_calls::branches::{Branch, Branches, branches_of, one_branch};
 use tcl_calls::expressions::{holds, next_part, number_at, read_expression, settle};
 use tcl_calls::scripts::{hand_place, script_of};
 use tcl_calls::turns::{goes_on, turns_on};
@@ -142,6 +144,36 @@ pub fn expr<O: Outside>(
     expression(tree, alloc, outside, place, &kept)
 }
 
+/// An `if` with one condition: evaluates its body where it holds, and the last body where it
+/// doesn't.
+#[cycle(eval)]
+#[inline(never)]
+fn if_one<O: Outside>(
+    tree: &mut Tree,
+    alloc: Global,
+    outside: &mut O,
+    place: Place,
+    branch: &Branch<'_>,
+    last: Option<&Value>,
+) -> Result<Value, Interruption>
+    requires { IsRunning tree.old place }
+    ensures runs { ProceedsIn (ways O.goes O.loses) tree.old outside.old place
+        (λ style. expressions.first_true style (branch_of branch.now ∷ [])
+        (option_copied last.entry)) tree.new outside.new result }
+    ensures here { OnCompletion result (IsHere tree.old tree.new place) }
+    ensures keeps { Keeps O.entries_left tree.old tree.new outside.old outside.new }
+{
+    let test = read_expression(tree, alloc, tree.integers(), branch.test)?;
+    let mut evaluation = Evaluation::new(alloc);
+    if condition(tree, alloc, outside, place, &mut evaluation, &test)? {
+        return eval_value(tree, alloc, outside, place, branch.body);
+    }
+    let Some(last) = last else {
+        return Ok(Value::empty());
+    };
+    eval_value(tree, alloc, outside, place, last)
+}
+
 /// `if expr1 ?then? body1 ?elseif expr2 ?then? body2 ...? ?else? ?bodyN?`: evaluates the first body
 /// whose condition holds. (if(n))
 ///
@@ -150,6 +182,28 @@ pub fn expr<O: Outside>(
 #[cycle(eval)]
 #[inline(never)]
 pub fn if_first<O: Outside>(
+    tree: &mut Tree,
+    alloc: Global,
+    outside: &mut O,
+    place: Place,
+    args: &[Value],
+) -> Result<Value, Interruption>
+    requires { IsRunning tree.old place }
+    ensures runs { ProceedsIn (ways O.goes O.loses) tree.old outside.old place
+        (λ style. expressions.if_first style args.now) tree.new outside.new result }
+    ensures here { OnCompletion result (IsHere tree.old tree.new place) }
+    ensures keeps { Keeps O.entries_left tree.old tree.new outside.old outside.new }
+{
+    if let Some((branch, last)) = one_branch(args) {
+        return if_one(tree, alloc, outside, place, &branch, last);
+    }
+    if_many(tree, alloc, outside, place, args)
+}
+
+/// The same, of any number of conditions.
+#[cycle(eval)]
+#[inline(never)]
+fn if_many<O: Outside>(
     tree: &mut Tree,
     alloc: Global,
     outside: &mut O,

@@ -89,7 +89,7 @@ use Rattle.tcl_language.specs.Instructions.Instr.{Script, While, For}
 use Rattle.tcl_operators.specs.Apply.{truth}
 use Rattle.tcl_operators.specs.Messages.{message_of as operator_message}
 use Rattle.tcl_run.proofs.Proceeding.{charges, charge_refused, goes_done, goes_on}
-use Rattle.tcl_calls.specs.BranchesRead.{seen, tests_of}
+use Rattle.tcl_calls.specs.BranchesRead.{alone, branch_of, seen, tests_of}
 use Rattle.tcl_calls.specs.declared.branches.Branch.{Branch}
 use Rattle.tcl_calls.specs.Expressions.{IsRefused, settles}
 use Rattle.tcl_language.specs.Control.{foreach_turns, is_over, sets_walks, uplevel}
@@ -1621,19 +1621,100 @@ expressions::expr-returns-clause-runs g t c =
 
 -- if
 
-pub expressions::if_first-returns-in_err-branches-clause-runs : goal.expressions::if_first-returns-in_err-branches-clause-runs
-expressions::if_first-returns-in_err-branches-clause-runs g t c =
+-- an `if` with one condition
+
+pub expressions::if_one-returns-in_err-test-clause-runs : goal.expressions::if_one-returns-in_err-test-clause-runs
+expressions::if_one-returns-in_err-test-clause-runs g t c =
+    let p = err_from_is_err_and c.from_residual.result c.from_residual.ensures.1 in
+    fails_err c.from_residual.result c.in_err-test.field-0.0 p.0 _ _ _ p.1 p.2 c.in_err-test.ensures.refused
+    (λ e h q style at.
+    let same = c.integers.ensures ∙ at.style_is in
+    Conditions.test_misread style c.args.branch.now.test.now _ e (Conditions.misread_in c.integers.result style c.args.branch.now.test.now e same h))
+    (λ q style at. stopped)
+
+pub expressions::if_one-returns-in_err-condition-clause-runs : goal.expressions::if_one-returns-in_err-condition-clause-runs
+expressions::if_one-returns-in_err-condition-clause-runs g t c =
+    let p = err_from_is_err_and c.from_residual-in_err-condition.result c.from_residual-in_err-condition.ensures.1 in
+    ran_err c.from_residual-in_err-condition.result c.in_err-condition.field-0.0 p.0 _ _ _ p.1 p.2 c.in_err-condition.ensures.runs
+    (λ e h q style at.
+    let same = c.integers.ensures ∙ at.style_is in
+    h q style at c.args.branch.now.test.now (Conditions.kept_behind c.integers.result style c.args.branch.now.test.now c.in_ok-test.test.value c.deref.result.now c.deref.ensures same c.in_ok-test.ensures.read) _)
+
+pub expressions::if_one-returns-in_err-condition-clause-here : goal.expressions::if_one-returns-in_err-condition-clause-here
+expressions::if_one-returns-in_err-condition-clause-here g t c =
+    let p = err_from_is_err_and c.from_residual-in_err-condition.result c.from_residual-in_err-condition.ensures.1 in
+    here_err c.from_residual-in_err-condition.result c.in_err-condition.field-0.0 p.0 c.args.tree.now c.args.tree.now c.condition.new.tree c.args.place p.1 p.2 (here-refl c.args.tree.now c.args.place) c.in_err-condition.ensures.here
+
+pub expressions::if_one-eval_value-requires : goal.expressions::if_one-eval_value-requires
+expressions::if_one-eval_value-requires g t c κs within = (search rules, (search rules, let r = still_running c.args.tree.now c.condition.new.tree c.args.place c.in_ok-condition.ensures.here c.requires in (r.0, r.1)))
+
+pub expressions::if_one-returns-then-condition-clause-runs : goal.expressions::if_one-returns-then-condition-clause-runs
+expressions::if_one-returns-then-condition-clause-runs g t c =
+    let holds = subst (TestGoes (ways g.O.Outside.goes g.O.Outside.loses) c.args.tree.now c.args.outside.now c.args.place c.deref.result.now c.condition.new.tree c.condition.new.outside) c.if-condition.true c.in_ok-condition.ensures.runs in
+    IfRan-more c.eval_value.result
+    (EndsAt (ways g.O.Outside.goes g.O.Outside.loses) c.condition.new.tree c.condition.new.outside c.args.place (λ style. script c.args.branch.now.body.now) c.eval_value.new.tree c.eval_value.new.outside)
+    (EndsFrom (ways g.O.Outside.goes g.O.Outside.loses) c.args.tree.now c.args.outside.now c.args.place (λ style. first_true style (branch_of c.args.branch.now ∷ []) (option_copied c.args.last)) c.eval_value.new.tree c.eval_value.new.outside)
+    (λ e h q style at.
+    let after = still_at _ _ c.args.place q style c.in_ok-condition.ensures.here at in
+    let same = c.integers.ensures ∙ at.style_is in
+    holds q style at c.args.branch.now.test.now (Conditions.kept_behind c.integers.result style c.args.branch.now.test.now c.in_ok-test.test.value c.deref.result.now c.deref.ensures same c.in_ok-test.ensures.read) _ _ _ _
+    (goes_done {i = Script c.args.branch.now.body.now} (h q style (record { names = after.names; style_is = after.style_is })))) c.eval_value.ensures.runs
+
+pub expressions::if_one-returns-then-condition-clause-here : goal.expressions::if_one-returns-then-condition-clause-here
+expressions::if_one-returns-then-condition-clause-here g t c = here_then c.eval_value.result c.args.tree.now c.condition.new.tree c.eval_value.new.tree c.args.place c.in_ok-condition.ensures.here c.eval_value.ensures.here
+
+pub expressions::if_one-returns-then-condition-clause-keeps : goal.expressions::if_one-returns-then-condition-clause-keeps
+expressions::if_one-returns-then-condition-clause-keeps g t c = keeps-trans c.condition.ensures.keeps c.eval_value.ensures.keeps
+
+pub expressions::if_one-returns-in_default-clause-runs : goal.expressions::if_one-returns-in_default-clause-runs
+expressions::if_one-returns-in_default-clause-runs g t c = λ q style at.
+    let fails = subst (TestGoes (ways g.O.Outside.goes g.O.Outside.loses) c.args.tree.now c.args.outside.now c.args.place c.deref.result.now c.condition.new.tree c.condition.new.outside) c.if-condition.false c.in_ok-condition.ensures.runs in
+    let same = c.integers.ensures ∙ at.style_is in
+    fails q style at c.args.branch.now.test.now (Conditions.kept_behind c.integers.result style c.args.branch.now.test.now c.in_ok-test.test.value c.deref.result.now c.deref.ensures same c.in_ok-test.ensures.read) _ _ _ _
+    (Conditions.last_none style _ (ap option_copied c.in_default.is) (ap (λ (x : List ℕ). Completed (ok x)) c.empty.ensures))
+
+pub expressions::if_one-eval_value-requires-2 : goal.expressions::if_one-eval_value-requires-2
+expressions::if_one-eval_value-requires-2 g t c κs within = (search rules, (search rules, let r = still_running c.args.tree.now c.condition.new.tree c.args.place c.in_ok-condition.ensures.here c.requires in (r.0, r.1)))
+
+pub expressions::if_one-returns-clause-runs : goal.expressions::if_one-returns-clause-runs
+expressions::if_one-returns-clause-runs g t c =
+    let fails = subst (TestGoes (ways g.O.Outside.goes g.O.Outside.loses) c.args.tree.now c.args.outside.now c.args.place c.deref.result.now c.condition.new.tree c.condition.new.outside) c.if-condition.false c.in_ok-condition.ensures.runs in
+    IfRan-more c.eval_value-2.result
+    (EndsAt (ways g.O.Outside.goes g.O.Outside.loses) c.condition.new.tree c.condition.new.outside c.args.place (λ style. script c.in-Some.last.now) c.eval_value-2.new.tree c.eval_value-2.new.outside)
+    (EndsFrom (ways g.O.Outside.goes g.O.Outside.loses) c.args.tree.now c.args.outside.now c.args.place (λ style. first_true style (branch_of c.args.branch.now ∷ []) (option_copied c.args.last)) c.eval_value-2.new.tree c.eval_value-2.new.outside)
+    (λ e h q style at.
+    let after = still_at _ _ c.args.place q style c.in_ok-condition.ensures.here at in
+    let same = c.integers.ensures ∙ at.style_is in
+    fails q style at c.args.branch.now.test.now (Conditions.kept_behind c.integers.result style c.args.branch.now.test.now c.in_ok-test.test.value c.deref.result.now c.deref.ensures same c.in_ok-test.ensures.read) _ _ _ _
+    (Conditions.last_runs style _ c.in-Some.last.now (ap option_copied c.in-Some.is)
+    (h q style (record { names = after.names; style_is = after.style_is })))) c.eval_value-2.ensures.runs
+
+pub expressions::if_one-returns-clause-here : goal.expressions::if_one-returns-clause-here
+expressions::if_one-returns-clause-here g t c = here_then c.eval_value-2.result c.args.tree.now c.condition.new.tree c.eval_value-2.new.tree c.args.place c.in_ok-condition.ensures.here c.eval_value-2.ensures.here
+
+pub expressions::if_one-returns-clause-keeps : goal.expressions::if_one-returns-clause-keeps
+expressions::if_one-returns-clause-keeps g t c = keeps-trans c.condition.ensures.keeps c.eval_value-2.ensures.keeps
+
+pub expressions::if_first-returns-in-Some-clause-runs : goal.expressions::if_first-returns-in-Some-clause-runs
+expressions::if_first-returns-in-Some-clause-runs g t c =
+    IfRan-more c.if_one.result
+    (EndsFrom (ways g.O.Outside.goes g.O.Outside.loses) c.args.tree.now c.args.outside.now c.args.place (λ style. first_true style (branch_of c.in-Some.branch ∷ []) (option_copied c.in-Some.last)) c.if_one.new.tree c.if_one.new.outside)
+    (EndsFrom (ways g.O.Outside.goes g.O.Outside.loses) c.args.tree.now c.args.outside.now c.args.place (λ style. if_first style c.args.args.now) c.if_one.new.tree c.if_one.new.outside)
+    (λ e h q style at. Conditions.if_begins style c.args.args.now (alone (branch_of c.in-Some.branch) (option_copied c.in-Some.last)) c.in-Some.ensures (h q style at)) c.if_one.ensures.runs
+
+pub expressions::if_many-returns-in_err-branches-clause-runs : goal.expressions::if_many-returns-in_err-branches-clause-runs
+expressions::if_many-returns-in_err-branches-clause-runs g t c =
     let p = err_from_is_err_and c.from_residual.result c.from_residual.ensures.1 in
     memory_err c.from_residual.result p.0 _ _ p.1 p.2
     (λ q style at. stopped)
 
-pub expressions::if_first-returns-in_default-clause-runs : goal.expressions::if_first-returns-in_default-clause-runs
-expressions::if_first-returns-in_default-clause-runs g t c =
+pub expressions::if_many-returns-in_default-clause-runs : goal.expressions::if_many-returns-in_default-clause-runs
+expressions::if_many-returns-in_default-clause-runs g t c =
     let none : branches_of c.args.args.now ≡ None = search rules in
     breaks c.wrong_args.result _ _ (λ e h q style at. Conditions.if_none style c.args.args.now none h) (λ q style at. stopped) c.wrong_args.ensures
 
-pub expressions::if_first-tests-init : goal.expressions::if_first-tests-init
-expressions::if_first-tests-init g t c =
+pub expressions::if_many-tests-init : goal.expressions::if_many-tests-init
+expressions::if_many-tests-init g t c =
     let some : branches_of c.args.args.now ≡ Some (seen c.in-Some.branches) = search rules in
     record {
       leads = λ q style at V z r run. Conditions.if_begins style c.args.args.now (seen c.in-Some.branches) some (at_prog (ap (λ (bs : List Branch). first_true style (tests_of bs) (option_copied c.in-Some.branches.last)) (sym c.deref-branch-items.ensures.value)) run);
@@ -1641,8 +1722,8 @@ expressions::if_first-tests-init g t c =
       keeps = keeps-refl _ _;
     }
 
-pub expressions::if_first-returns-in_err-test-clause-runs : goal.expressions::if_first-returns-in_err-test-clause-runs
-expressions::if_first-returns-in_err-test-clause-runs g t c =
+pub expressions::if_many-returns-in_err-test-clause-runs : goal.expressions::if_many-returns-in_err-test-clause-runs
+expressions::if_many-returns-in_err-test-clause-runs g t c =
     let item = item_on c.deref-branch-items.result.now c.tests.branch-index c.branch-item.result c.tests-test.true c.branch-item.is in
     let p = err_from_is_err_and c.from_residual-in_err-test.result c.from_residual-in_err-test.ensures.1 in
     fails_err c.from_residual-in_err-test.result c.in_err-test.field-0.0 p.0 _ _ _ p.1 p.2 c.in_err-test.ensures.refused
@@ -1653,8 +1734,8 @@ expressions::if_first-returns-in_err-test-clause-runs g t c =
     (Conditions.test_misread style c.branch-item.result.test.now _ e (Conditions.misread_in c.integers.result style c.branch-item.result.test.now e same h))))
     (λ q style at. c.tests.invariant.leads q style at _ _ _ stopped)
 
-pub expressions::if_first-returns-in_err-condition-clause-runs : goal.expressions::if_first-returns-in_err-condition-clause-runs
-expressions::if_first-returns-in_err-condition-clause-runs g t c =
+pub expressions::if_many-returns-in_err-condition-clause-runs : goal.expressions::if_many-returns-in_err-condition-clause-runs
+expressions::if_many-returns-in_err-condition-clause-runs g t c =
     let item = item_on c.deref-branch-items.result.now c.tests.branch-index c.branch-item.result c.tests-test.true c.branch-item.is in
     let p = err_from_is_err_and c.from_residual-in_err-condition.result c.from_residual-in_err-condition.ensures.1 in
     ran_err c.from_residual-in_err-condition.result c.in_err-condition.field-0.0 p.0 _ _ _ p.1 p.2 c.in_err-condition.ensures.runs
@@ -1664,8 +1745,8 @@ expressions::if_first-returns-in_err-condition-clause-runs g t c =
     c.tests.invariant.leads q style at _ _ _ (at_prog (ap (λ (bs : List Branch). first_true style (tests_of bs) (option_copied c.in-Some.branches.last)) item)
     (h q style here c.branch-item.result.test.now (Conditions.kept_behind c.integers.result style c.branch-item.result.test.now c.in_ok-test.test.value c.deref.result.now c.deref.ensures same c.in_ok-test.ensures.read) _)))
 
-pub expressions::if_first-returns-then-branch-clause-runs : goal.expressions::if_first-returns-then-branch-clause-runs
-expressions::if_first-returns-then-branch-clause-runs g t c =
+pub expressions::if_many-returns-then-branch-clause-runs : goal.expressions::if_many-returns-then-branch-clause-runs
+expressions::if_many-returns-then-branch-clause-runs g t c =
     let item = item_on c.deref-branch-items.result.now c.tests.branch-index c.branch-item.result c.tests-test.true c.branch-item.is in
     let holds = subst (TestGoes (ways g.O.Outside.goes g.O.Outside.loses) c.tests.tree c.tests.outside c.args.place c.deref.result.now c.condition.new.tree c.condition.new.outside) c.if-branch.true c.in_ok-condition.ensures.runs in
     IfRan-more c.eval_value.result
@@ -1679,8 +1760,8 @@ expressions::if_first-returns-then-branch-clause-runs g t c =
     (holds q style here c.branch-item.result.test.now (Conditions.kept_behind c.integers.result style c.branch-item.result.test.now c.in_ok-test.test.value c.deref.result.now c.deref.ensures same c.in_ok-test.ensures.read) _ _ _ _
     (goes_done {i = Script c.branch-item.result.body.now} (h q style (record { names = after.names; style_is = after.style_is })))))) c.eval_value.ensures.runs
 
-pub expressions::if_first-tests-preserved : goal.expressions::if_first-tests-preserved
-expressions::if_first-tests-preserved g t c =
+pub expressions::if_many-tests-preserved : goal.expressions::if_many-tests-preserved
+expressions::if_many-tests-preserved g t c =
     let item = item_on c.deref-branch-items.result.now c.tests.branch-index c.branch-item.result c.tests-test.true c.branch-item.is in
     let holds = subst (TestGoes (ways g.O.Outside.goes g.O.Outside.loses) c.tests.tree c.tests.outside c.args.place c.deref.result.now c.condition.new.tree c.condition.new.outside) c.if-branch.false c.in_ok-condition.ensures.runs in
     record {
@@ -1693,14 +1774,14 @@ expressions::if_first-tests-preserved g t c =
       keeps = keeps-trans c.tests.invariant.keeps c.condition.ensures.keeps;
     }
 
-pub expressions::if_first-returns-in_default-last-clause-runs : goal.expressions::if_first-returns-in_default-last-clause-runs
-expressions::if_first-returns-in_default-last-clause-runs g t c = λ q style at.
+pub expressions::if_many-returns-in_default-last-clause-runs : goal.expressions::if_many-returns-in_default-last-clause-runs
+expressions::if_many-returns-in_default-last-clause-runs g t c = λ q style at.
     let none = none_on c.deref-branch-items.result.now c.tests.branch-index c.tests-test.false in
     c.tests.invariant.leads q style at _ _ _ (at_prog (ap (λ (bs : List Branch). first_true style (tests_of bs) (option_copied c.in-Some.branches.last)) none)
     (Conditions.last_none style _ (ap option_copied c.in_default-last.is) (ap (λ (x : List ℕ). Completed (ok x)) c.empty.ensures)))
 
-pub expressions::if_first-returns-clause-runs : goal.expressions::if_first-returns-clause-runs
-expressions::if_first-returns-clause-runs g t c =
+pub expressions::if_many-returns-clause-runs : goal.expressions::if_many-returns-clause-runs
+expressions::if_many-returns-clause-runs g t c =
     let none = none_on c.deref-branch-items.result.now c.tests.branch-index c.tests-test.false in
     IfRan-more c.eval_value-2.result
     (EndsAt (ways g.O.Outside.goes g.O.Outside.loses) c.tests.tree c.tests.outside c.args.place (λ style. script c.in-Some-last.last.now) c.eval_value-2.new.tree c.eval_value-2.new.outside)
@@ -2293,20 +2374,20 @@ loops::uplevel-returns-clause-runs g t c =
 
 -- what stays as it is, in conditions and loops
 
-pub expressions::if_first-condition-requires : goal.expressions::if_first-condition-requires
-expressions::if_first-condition-requires g t c κs within = (search rules, (search rules, still_running c.args.tree.now c.tests.tree c.args.place c.tests.invariant.here c.requires))
+pub expressions::if_many-condition-requires : goal.expressions::if_many-condition-requires
+expressions::if_many-condition-requires g t c κs within = (search rules, (search rules, still_running c.args.tree.now c.tests.tree c.args.place c.tests.invariant.here c.requires))
 
-pub expressions::if_first-returns-in_err-condition-clause-keeps : goal.expressions::if_first-returns-in_err-condition-clause-keeps
-expressions::if_first-returns-in_err-condition-clause-keeps g t c = keeps-trans c.tests.invariant.keeps c.condition.ensures.keeps
+pub expressions::if_many-returns-in_err-condition-clause-keeps : goal.expressions::if_many-returns-in_err-condition-clause-keeps
+expressions::if_many-returns-in_err-condition-clause-keeps g t c = keeps-trans c.tests.invariant.keeps c.condition.ensures.keeps
 
-pub expressions::if_first-eval_value-requires : goal.expressions::if_first-eval_value-requires
-expressions::if_first-eval_value-requires g t c κs within = (search rules, (search rules, let r = still_running c.args.tree.now c.condition.new.tree c.args.place (here-trans c.args.tree.now c.tests.tree c.condition.new.tree c.args.place c.tests.invariant.here c.in_ok-condition.ensures.here) c.requires in (r.0, r.1)))
+pub expressions::if_many-eval_value-requires : goal.expressions::if_many-eval_value-requires
+expressions::if_many-eval_value-requires g t c κs within = (search rules, (search rules, let r = still_running c.args.tree.now c.condition.new.tree c.args.place (here-trans c.args.tree.now c.tests.tree c.condition.new.tree c.args.place c.tests.invariant.here c.in_ok-condition.ensures.here) c.requires in (r.0, r.1)))
 
-pub expressions::if_first-returns-then-branch-clause-keeps : goal.expressions::if_first-returns-then-branch-clause-keeps
-expressions::if_first-returns-then-branch-clause-keeps g t c = keeps-trans c.tests.invariant.keeps (keeps-trans c.condition.ensures.keeps c.eval_value.ensures.keeps)
+pub expressions::if_many-returns-then-branch-clause-keeps : goal.expressions::if_many-returns-then-branch-clause-keeps
+expressions::if_many-returns-then-branch-clause-keeps g t c = keeps-trans c.tests.invariant.keeps (keeps-trans c.condition.ensures.keeps c.eval_value.ensures.keeps)
 
-pub expressions::if_first-returns-clause-keeps : goal.expressions::if_first-returns-clause-keeps
-expressions::if_first-returns-clause-keeps g t c = keeps-trans c.tests.invariant.keeps c.eval_value-2.ensures.keeps
+pub expressions::if_many-returns-clause-keeps : goal.expressions::if_many-returns-clause-keeps
+expressions::if_many-returns-clause-keeps g t c = keeps-trans c.tests.invariant.keeps c.eval_value-2.ensures.keeps
 
 pub expressions::while_loop-returns-in_err-turn-clause-keeps : goal.expressions::while_loop-returns-in_err-turn-clause-keeps
 expressions::while_loop-returns-in_err-turn-clause-keeps g t c = keeps-trans c.turns.invariant.keeps c.turn.ensures.keeps
@@ -3166,8 +3247,8 @@ expressions::compute-eval_operand-requires g t c κs within = (search rules, (se
 pub expressions::while_loop-turn-requires : goal.expressions::while_loop-turn-requires
 expressions::while_loop-turn-requires g t c κs within = (search rules, (search rules, still_running c.args.tree.now c.turns.tree c.args.place c.turns.invariant.here c.requires))
 
-pub expressions::if_first-eval_value-requires-2 : goal.expressions::if_first-eval_value-requires-2
-expressions::if_first-eval_value-requires-2 g t c κs within = (search rules, (search rules, (c.requires.0, still_named c.args.tree.now c.tests.tree c.args.place c.requires.0 c.tests.invariant.here c.requires.1)))
+pub expressions::if_many-eval_value-requires-2 : goal.expressions::if_many-eval_value-requires-2
+expressions::if_many-eval_value-requires-2 g t c κs within = (search rules, (search rules, (c.requires.0, still_named c.args.tree.now c.tests.tree c.args.place c.requires.0 c.tests.invariant.here c.requires.1)))
 
 pub evaluation::eval_commands-returns-in_err-last-clause-here : goal.evaluation::eval_commands-returns-in_err-last-clause-here
 evaluation::eval_commands-returns-in_err-last-clause-here g t c =
@@ -3319,22 +3400,22 @@ expressions::condition-returns-in_err-value-clause-here g t c =
 pub expressions::condition-returns-clause-here : goal.expressions::condition-returns-clause-here
 expressions::condition-returns-clause-here g t c = on_completion c.holds.result (IsHere c.args.tree.now c.compute.new.tree c.args.place) (here_text c.compute.result c.in_ok-value.value c.args.tree.now c.compute.new.tree c.args.place c.in_ok-value.ensures.text c.compute.ensures.here)
 
-pub expressions::if_first-returns-in_err-test-clause-here : goal.expressions::if_first-returns-in_err-test-clause-here
-expressions::if_first-returns-in_err-test-clause-here g t c = on_completion c.from_residual-in_err-test.result (IsHere c.args.tree.now c.tests.tree c.args.place) c.tests.invariant.here
+pub expressions::if_many-returns-in_err-test-clause-here : goal.expressions::if_many-returns-in_err-test-clause-here
+expressions::if_many-returns-in_err-test-clause-here g t c = on_completion c.from_residual-in_err-test.result (IsHere c.args.tree.now c.tests.tree c.args.place) c.tests.invariant.here
 
-pub expressions::if_first-returns-in_err-condition-clause-here : goal.expressions::if_first-returns-in_err-condition-clause-here
-expressions::if_first-returns-in_err-condition-clause-here g t c =
+pub expressions::if_many-returns-in_err-condition-clause-here : goal.expressions::if_many-returns-in_err-condition-clause-here
+expressions::if_many-returns-in_err-condition-clause-here g t c =
     let p = err_from_is_err_and c.from_residual-in_err-condition.result c.from_residual-in_err-condition.ensures.1 in
     here_err c.from_residual-in_err-condition.result c.in_err-condition.field-0.0 p.0 c.args.tree.now c.tests.tree c.condition.new.tree c.args.place p.1 p.2 c.tests.invariant.here c.in_err-condition.ensures.here
 
-pub expressions::if_first-returns-then-branch-clause-here : goal.expressions::if_first-returns-then-branch-clause-here
-expressions::if_first-returns-then-branch-clause-here g t c = here_then c.eval_value.result c.args.tree.now c.condition.new.tree c.eval_value.new.tree c.args.place (here-trans c.args.tree.now c.tests.tree c.condition.new.tree c.args.place c.tests.invariant.here c.in_ok-condition.ensures.here) c.eval_value.ensures.here
+pub expressions::if_many-returns-then-branch-clause-here : goal.expressions::if_many-returns-then-branch-clause-here
+expressions::if_many-returns-then-branch-clause-here g t c = here_then c.eval_value.result c.args.tree.now c.condition.new.tree c.eval_value.new.tree c.args.place (here-trans c.args.tree.now c.tests.tree c.condition.new.tree c.args.place c.tests.invariant.here c.in_ok-condition.ensures.here) c.eval_value.ensures.here
 
-pub expressions::if_first-returns-in_default-last-clause-here : goal.expressions::if_first-returns-in_default-last-clause-here
-expressions::if_first-returns-in_default-last-clause-here g t c = c.tests.invariant.here
+pub expressions::if_many-returns-in_default-last-clause-here : goal.expressions::if_many-returns-in_default-last-clause-here
+expressions::if_many-returns-in_default-last-clause-here g t c = c.tests.invariant.here
 
-pub expressions::if_first-returns-clause-here : goal.expressions::if_first-returns-clause-here
-expressions::if_first-returns-clause-here g t c = here_then c.eval_value-2.result c.args.tree.now c.tests.tree c.eval_value-2.new.tree c.args.place c.tests.invariant.here c.eval_value-2.ensures.here
+pub expressions::if_many-returns-clause-here : goal.expressions::if_many-returns-clause-here
+expressions::if_many-returns-clause-here g t c = here_then c.eval_value-2.result c.args.tree.now c.tests.tree c.eval_value-2.new.tree c.args.place c.tests.invariant.here c.eval_value-2.ensures.here
 
 pub expressions::turn-returns-in_err-condition-clause-here : goal.expressions::turn-returns-in_err-condition-clause-here
 expressions::turn-returns-in_err-condition-clause-here g t c =
@@ -3594,8 +3675,8 @@ expressions::expr-returns-in_err-kept-clause-here g t c = unmoved c.from_residua
 pub expressions::expr-returns-in_err-text-clause-here : goal.expressions::expr-returns-in_err-text-clause-here
 expressions::expr-returns-in_err-text-clause-here g t c = unmoved c.from_residual.result c.args.tree.now c.args.place
 
-pub expressions::if_first-returns-in_err-branches-clause-here : goal.expressions::if_first-returns-in_err-branches-clause-here
-expressions::if_first-returns-in_err-branches-clause-here g t c = unmoved c.from_residual.result c.args.tree.now c.args.place
+pub expressions::if_many-returns-in_err-branches-clause-here : goal.expressions::if_many-returns-in_err-branches-clause-here
+expressions::if_many-returns-in_err-branches-clause-here g t c = unmoved c.from_residual.result c.args.tree.now c.args.place
 
 pub expressions::while_loop-returns-in_err-test-clause-here : goal.expressions::while_loop-returns-in_err-test-clause-here
 expressions::while_loop-returns-in_err-test-clause-here g t c = unmoved c.from_residual.result c.args.tree.now c.args.place
@@ -3730,8 +3811,8 @@ control::eval-returns-then-is_empty-clause-here g t c = Completes-all c.wrong_ar
 pub expressions::expr-returns-then-is_empty-clause-here : goal.expressions::expr-returns-then-is_empty-clause-here
 expressions::expr-returns-then-is_empty-clause-here g t c = Completes-all c.wrong_args.result (IsHere c.args.tree.now c.args.tree.now c.args.place) (here-refl c.args.tree.now c.args.place)
 
-pub expressions::if_first-returns-in_default-clause-here : goal.expressions::if_first-returns-in_default-clause-here
-expressions::if_first-returns-in_default-clause-here g t c = Completes-all c.wrong_args.result (IsHere c.args.tree.now c.args.tree.now c.args.place) (here-refl c.args.tree.now c.args.place)
+pub expressions::if_many-returns-in_default-clause-here : goal.expressions::if_many-returns-in_default-clause-here
+expressions::if_many-returns-in_default-clause-here g t c = Completes-all c.wrong_args.result (IsHere c.args.tree.now c.args.tree.now c.args.place) (here-refl c.args.tree.now c.args.place)
 
 pub expressions::while_loop-returns-in_default-clause-here : goal.expressions::while_loop-returns-in_default-clause-here
 expressions::while_loop-returns-in_default-clause-here g t c = Completes-all c.wrong_args.result (IsHere c.args.tree.now c.args.tree.now c.args.place) (here-refl c.args.tree.now c.args.place)

@@ -181,8 +181,14 @@ decreases-expressions::condition g l = 32032 * g.O.Outside.entries_left l.outsid
 abbrev pub decreases-expressions::expr : goal.decreases-expressions::expr
 decreases-expressions::expr g l = 32032 * g.O.Outside.entries_left l.outside.now + 32 * room (tree_of l.tree.now) + 8
 
+abbrev pub decreases-expressions::if_one : goal.decreases-expressions::if_one
+decreases-expressions::if_one g l = 32032 * g.O.Outside.entries_left l.outside.now + 32 * room (tree_of l.tree.now) + 8
+
+abbrev pub decreases-expressions::if_many : goal.decreases-expressions::if_many
+decreases-expressions::if_many g l = 32032 * g.O.Outside.entries_left l.outside.now + 32 * room (tree_of l.tree.now) + 8
+
 abbrev pub decreases-expressions::if_first : goal.decreases-expressions::if_first
-decreases-expressions::if_first g l = 32032 * g.O.Outside.entries_left l.outside.now + 32 * room (tree_of l.tree.now) + 8
+decreases-expressions::if_first g l = 32032 * g.O.Outside.entries_left l.outside.now + 32 * room (tree_of l.tree.now) + 9
 
 abbrev pub decreases-expressions::turn : goal.decreases-expressions::turn
 decreases-expressions::turn g l = 32032 * g.O.Outside.entries_left l.outside.now + 32 * room (tree_of l.tree.now) + 8
@@ -204,8 +210,8 @@ invariant-expressions::compute-parts g l = record {
   keeps : Keeps g.O.Outside.entries_left l.fn.tree l.tree l.fn.outside l.outside;
 }
 
-abbrev pub invariant-expressions::if_first-tests : goal.invariant-expressions::if_first-tests
-invariant-expressions::if_first-tests g l = record {
+abbrev pub invariant-expressions::if_many-tests : goal.invariant-expressions::if_many-tests
+invariant-expressions::if_many-tests g l = record {
   leads : (p : Path) (style : Integers) → IsAt l.fn.tree l.place p style →
       Leads (ways g.O.Outside.goes g.O.Outside.loses) style (tree_of l.fn.tree) l.fn.outside p (if_first style l.fn.args) (tree_of l.tree) l.outside (first_true style (tests_of (drop l.branch-index l.branch-items)) (option_copied l.last));
   here : IsHere l.fn.tree l.tree l.place;
