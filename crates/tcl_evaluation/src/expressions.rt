@@ -1,7 +1,6 @@
 //! Expressions, and the commands with conditions.
 ghost use Rattle.std.specs.Option.{option_copied};
 ghost use Rattle.std.specs.Prelude.{◌∷◌, [], MatchResult};
-ghost use Rattle.tcl_calls.specs.BranchesRead.{branch_of};
 ghost use Rattle.tcl_language.specs.Expressions as expressions;
 ghost use Rattle.tcl_run.specs.Ends.{Breaks, OnCompletion};
 ghost use Rattle.tcl_run.specs.Runs.{IsHere, IsRunning, Keeps, ProceedsIn, ways};
@@ -11,7 +10,7 @@ ghost use Rattle.tcl_evaluation.specs.Conditional.{TurnBreaks};
 use crate::evaluation::eval_value;
 use crate::operands::eval_operand;
 use std::alloc::Global;
-use tcl_calls::branches::{Branch, Branches, branches_of, one_branch};
+use tcl_calls::branches::{Branches, branches_of, one_branch};
 use tcl_calls::expressions::{holds, next_part, number_at, read_expression, settle};
 use tcl_calls::scripts::{hand_place, script_of};
 use tcl_calls::turns::{goes_on, turns_on};
@@ -153,20 +152,21 @@ fn if_one<O: Outside>(
     alloc: Global,
     outside: &mut O,
     place: Place,
-    branch: &Branch<'_>,
+    test: &Value,
+    body: &Value,
     last: Option<&Value>,
 ) -> Result<Value, Interruption>
     requires { IsRunning tree.old place }
     ensures runs { ProceedsIn (ways O.goes O.loses) tree.old outside.old place
-        (λ style. expressions.first_true style (branch_of branch.now ∷ [])
+        (λ style. expressions.first_true style ((test.now, body.now) ∷ [])
         (option_copied last.entry)) tree.new outside.new result }
     ensures here { OnCompletion result (IsHere tree.old tree.new place) }
     ensures keeps { Keeps O.entries_left tree.old tree.new outside.old outside.new }
 {
-    let test = read_expression(tree, alloc, tree.integers(), branch.test)?;
+    let kept = read_expression(tree, alloc, tree.integers(), test)?;
     let mut evaluation = Evaluation::new(alloc);
-    if condition(tree, alloc, outside, place, &mut evaluation, &test)? {
-        return eval_value(tree, alloc, outside, place, branch.body);
+    if condition(tree, alloc, outside, place, &mut evaluation, &kept)? {
+        return eval_value(tree, alloc, outside, place, body);
     }
     let Some(last) = last else {
         return Ok(Value::empty());
@@ -195,7 +195,7 @@ pub fn if_first<O: Outside>(
     ensures keeps { Keeps O.entries_left tree.old tree.new outside.old outside.new }
 {
     if let Some((branch, last)) = one_branch(args) {
-        return if_one(tree, alloc, outside, place, &branch, last);
+        return if_one(tree, alloc, outside, place, branch.test, branch.body, last);
     }
     if_many(tree, alloc, outside, place, args)
 }

@@ -1623,13 +1623,13 @@ expressions::expr-returns-clause-runs g t c =
 
 -- an `if` with one condition
 
-pub expressions::if_one-returns-in_err-test-clause-runs : goal.expressions::if_one-returns-in_err-test-clause-runs
-expressions::if_one-returns-in_err-test-clause-runs g t c =
+pub expressions::if_one-returns-in_err-kept-clause-runs : goal.expressions::if_one-returns-in_err-kept-clause-runs
+expressions::if_one-returns-in_err-kept-clause-runs g t c =
     let p = err_from_is_err_and c.from_residual.result c.from_residual.ensures.1 in
-    fails_err c.from_residual.result c.in_err-test.field-0.0 p.0 _ _ _ p.1 p.2 c.in_err-test.ensures.refused
+    fails_err c.from_residual.result c.in_err-kept.field-0.0 p.0 _ _ _ p.1 p.2 c.in_err-kept.ensures.refused
     (λ e h q style at.
     let same = c.integers.ensures ∙ at.style_is in
-    Conditions.test_misread style c.args.branch.now.test.now _ e (Conditions.misread_in c.integers.result style c.args.branch.now.test.now e same h))
+    Conditions.test_misread style c.args.test.now _ e (Conditions.misread_in c.integers.result style c.args.test.now e same h))
     (λ q style at. stopped)
 
 pub expressions::if_one-returns-in_err-condition-clause-runs : goal.expressions::if_one-returns-in_err-condition-clause-runs
@@ -1638,7 +1638,7 @@ expressions::if_one-returns-in_err-condition-clause-runs g t c =
     ran_err c.from_residual-in_err-condition.result c.in_err-condition.field-0.0 p.0 _ _ _ p.1 p.2 c.in_err-condition.ensures.runs
     (λ e h q style at.
     let same = c.integers.ensures ∙ at.style_is in
-    h q style at c.args.branch.now.test.now (Conditions.kept_behind c.integers.result style c.args.branch.now.test.now c.in_ok-test.test.value c.deref.result.now c.deref.ensures same c.in_ok-test.ensures.read) _)
+    h q style at c.args.test.now (Conditions.kept_behind c.integers.result style c.args.test.now c.in_ok-kept.kept.value c.deref.result.now c.deref.ensures same c.in_ok-kept.ensures.read) _)
 
 pub expressions::if_one-returns-in_err-condition-clause-here : goal.expressions::if_one-returns-in_err-condition-clause-here
 expressions::if_one-returns-in_err-condition-clause-here g t c =
@@ -1652,13 +1652,13 @@ pub expressions::if_one-returns-then-condition-clause-runs : goal.expressions::i
 expressions::if_one-returns-then-condition-clause-runs g t c =
     let holds = subst (TestGoes (ways g.O.Outside.goes g.O.Outside.loses) c.args.tree.now c.args.outside.now c.args.place c.deref.result.now c.condition.new.tree c.condition.new.outside) c.if-condition.true c.in_ok-condition.ensures.runs in
     IfRan-more c.eval_value.result
-    (EndsAt (ways g.O.Outside.goes g.O.Outside.loses) c.condition.new.tree c.condition.new.outside c.args.place (λ style. script c.args.branch.now.body.now) c.eval_value.new.tree c.eval_value.new.outside)
-    (EndsFrom (ways g.O.Outside.goes g.O.Outside.loses) c.args.tree.now c.args.outside.now c.args.place (λ style. first_true style (branch_of c.args.branch.now ∷ []) (option_copied c.args.last)) c.eval_value.new.tree c.eval_value.new.outside)
+    (EndsAt (ways g.O.Outside.goes g.O.Outside.loses) c.condition.new.tree c.condition.new.outside c.args.place (λ style. script c.args.body.now) c.eval_value.new.tree c.eval_value.new.outside)
+    (EndsFrom (ways g.O.Outside.goes g.O.Outside.loses) c.args.tree.now c.args.outside.now c.args.place (λ style. first_true style ((c.args.test.now, c.args.body.now) ∷ []) (option_copied c.args.last)) c.eval_value.new.tree c.eval_value.new.outside)
     (λ e h q style at.
     let after = still_at _ _ c.args.place q style c.in_ok-condition.ensures.here at in
     let same = c.integers.ensures ∙ at.style_is in
-    holds q style at c.args.branch.now.test.now (Conditions.kept_behind c.integers.result style c.args.branch.now.test.now c.in_ok-test.test.value c.deref.result.now c.deref.ensures same c.in_ok-test.ensures.read) _ _ _ _
-    (goes_done {i = Script c.args.branch.now.body.now} (h q style (record { names = after.names; style_is = after.style_is })))) c.eval_value.ensures.runs
+    holds q style at c.args.test.now (Conditions.kept_behind c.integers.result style c.args.test.now c.in_ok-kept.kept.value c.deref.result.now c.deref.ensures same c.in_ok-kept.ensures.read) _ _ _ _
+    (goes_done {i = Script c.args.body.now} (h q style (record { names = after.names; style_is = after.style_is })))) c.eval_value.ensures.runs
 
 pub expressions::if_one-returns-then-condition-clause-here : goal.expressions::if_one-returns-then-condition-clause-here
 expressions::if_one-returns-then-condition-clause-here g t c = here_then c.eval_value.result c.args.tree.now c.condition.new.tree c.eval_value.new.tree c.args.place c.in_ok-condition.ensures.here c.eval_value.ensures.here
@@ -1670,7 +1670,7 @@ pub expressions::if_one-returns-in_default-clause-runs : goal.expressions::if_on
 expressions::if_one-returns-in_default-clause-runs g t c = λ q style at.
     let fails = subst (TestGoes (ways g.O.Outside.goes g.O.Outside.loses) c.args.tree.now c.args.outside.now c.args.place c.deref.result.now c.condition.new.tree c.condition.new.outside) c.if-condition.false c.in_ok-condition.ensures.runs in
     let same = c.integers.ensures ∙ at.style_is in
-    fails q style at c.args.branch.now.test.now (Conditions.kept_behind c.integers.result style c.args.branch.now.test.now c.in_ok-test.test.value c.deref.result.now c.deref.ensures same c.in_ok-test.ensures.read) _ _ _ _
+    fails q style at c.args.test.now (Conditions.kept_behind c.integers.result style c.args.test.now c.in_ok-kept.kept.value c.deref.result.now c.deref.ensures same c.in_ok-kept.ensures.read) _ _ _ _
     (Conditions.last_none style _ (ap option_copied c.in_default.is) (ap (λ (x : List ℕ). Completed (ok x)) c.empty.ensures))
 
 pub expressions::if_one-eval_value-requires-2 : goal.expressions::if_one-eval_value-requires-2
@@ -1681,11 +1681,11 @@ expressions::if_one-returns-clause-runs g t c =
     let fails = subst (TestGoes (ways g.O.Outside.goes g.O.Outside.loses) c.args.tree.now c.args.outside.now c.args.place c.deref.result.now c.condition.new.tree c.condition.new.outside) c.if-condition.false c.in_ok-condition.ensures.runs in
     IfRan-more c.eval_value-2.result
     (EndsAt (ways g.O.Outside.goes g.O.Outside.loses) c.condition.new.tree c.condition.new.outside c.args.place (λ style. script c.in-Some.last.now) c.eval_value-2.new.tree c.eval_value-2.new.outside)
-    (EndsFrom (ways g.O.Outside.goes g.O.Outside.loses) c.args.tree.now c.args.outside.now c.args.place (λ style. first_true style (branch_of c.args.branch.now ∷ []) (option_copied c.args.last)) c.eval_value-2.new.tree c.eval_value-2.new.outside)
+    (EndsFrom (ways g.O.Outside.goes g.O.Outside.loses) c.args.tree.now c.args.outside.now c.args.place (λ style. first_true style ((c.args.test.now, c.args.body.now) ∷ []) (option_copied c.args.last)) c.eval_value-2.new.tree c.eval_value-2.new.outside)
     (λ e h q style at.
     let after = still_at _ _ c.args.place q style c.in_ok-condition.ensures.here at in
     let same = c.integers.ensures ∙ at.style_is in
-    fails q style at c.args.branch.now.test.now (Conditions.kept_behind c.integers.result style c.args.branch.now.test.now c.in_ok-test.test.value c.deref.result.now c.deref.ensures same c.in_ok-test.ensures.read) _ _ _ _
+    fails q style at c.args.test.now (Conditions.kept_behind c.integers.result style c.args.test.now c.in_ok-kept.kept.value c.deref.result.now c.deref.ensures same c.in_ok-kept.ensures.read) _ _ _ _
     (Conditions.last_runs style _ c.in-Some.last.now (ap option_copied c.in-Some.is)
     (h q style (record { names = after.names; style_is = after.style_is })))) c.eval_value-2.ensures.runs
 
