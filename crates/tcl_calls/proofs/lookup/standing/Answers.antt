@@ -1,0 +1,15 @@
+use Rattle.std.proofs.Common.{◌≡◌, false, ap, sym, ◌∙◌}
+use Rattle.std.specs.Option.{option_and_then}
+use Rattle.tcl_core.specs.Trees.{Node}
+use Rattle.tcl_interpreter.specs.Own.{command_in}
+use Rattle.tcl_tree.specs.Own.{Own}
+use Rattle.tcl_variables.specs.Names.{has_colons}
+use Rattle.tcl_calls.proofs.Naming.{found_kept}
+use Rattle.tcl_calls.proofs.lookup.standing.Goals as goal
+
+pub returns : goal.returns
+returns c = λ p n names there.
+    let word = c.args.word.now in
+    let plain : has_colons word ≡ false = ap has_colons (sym (c.as_str.ensures ∙ c.in_ok-name.ensures.name)) ∙ sym c.with_colons.ensures ∙ c.if-with_colons.false in
+    let command = c.in_ok-name.ensures.command p names ∙ ap (option_and_then (λ (m : Node Own). command_in m.own word)) there in
+    found_kept n word c.in_ok-name.command.now plain (sym command)
