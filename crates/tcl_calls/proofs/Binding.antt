@@ -1,13 +1,13 @@
 -- What the parameters of a call are bound to, from the left.
-use Rattle.std.proofs.Common.{◌≡◌, ℕ, ◌-◌, ◌≤◌, Bool, true, false, List, [], ◌∷◌, ◌++◌, take, drop, get_or, length, Option, Some, None, refl, sym, ◌∙◌, ap, arith}
+use Rattle.std.proofs.Common.{◌≡◌, ℕ, suc, ◌-◌, ◌≤◌, Bool, true, false, List, [], ◌∷◌, ◌++◌, take, drop, get_or, length, Option, Some, None, refl, sym, ◌∙◌, ap, arith}
 use Rattle.std.specs.Prelude.{◌&&◌}
 use Rattle.std.proofs.lemmas.List.{map-append}
 use Rattle.std.proofs.lemmas.Option.{same_Some}
-use Rattle.tcl_language.specs.Control.{bindings, also, by_default, fit_all}
+use Rattle.tcl_language.specs.Control.{bindings, also, by_default, fit_all, is_rest, last_bound}
 use Rattle.tcl_language.specs.Instructions.{fits}
 use Rattle.tcl_interpreter.specs.declared.parameter.Parameter.{Parameter}
 use Rattle.tcl_core.specs.Endings.{Reply}
-use Rattle.tcl_calls.specs.Procedures.{pair_of, pairs_of, joined, next_bound, TooLongBound}
+use Rattle.tcl_calls.specs.Procedures.{pair_of, pairs_of, joined, next_bound, straight, TooLongBound}
 use Rattle.tcl_calls.specs.declared.procedures.Binding.{Binding}
 
 by_default_also : (name d : List ℕ) (o : Option (List (List ℕ × List ℕ))) → by_default name (Some d) o ≡ also (name, d) o
@@ -65,3 +65,13 @@ fit_both (b ∷ bs) cs h = by (fits b.1) (fit_all bs) (fit_all (bs ++ cs)) h (fi
 pub too_long_joined : (bs : List (List ℕ × List ℕ)) (o : Option (List (List ℕ × List ℕ))) (e : Reply) → fit_all bs ≡ true → TooLongBound o e → TooLongBound (joined bs o) e
 too_long_joined bs None e fit h = h
 too_long_joined bs (Some cs) e fit h = (fit_both bs cs fit ∙ h.0, h.1)
+
+-- one word for each parameter, where the last takes no more than its own
+pub some_straight : (ps : List Parameter) (last : Parameter) (args : List (List ℕ)) → 1 ≤ length ps → length ps ≡ length args → last ≡ get_or ps (length ps - 1) last → is_rest last.name ≡ false → bindings ps args ≡ Some (straight ps args)
+some_straight [] last args h e is other = absurd (omega arith)
+some_straight (p ∷ ps) last [] h e is other = absurd (omega arith)
+some_straight (p ∷ []) last (w ∷ []) h e is other = ap (λ b. last_bound b p (w ∷ [])) (ap (λ (x : Parameter). is_rest x.name) (sym is) ∙ other)
+some_straight (p ∷ []) last (w ∷ v ∷ ws) h e is other = absurd (omega arith)
+some_straight (p ∷ q ∷ ps) last (w ∷ ws) h e is other =
+    let n : length (p ∷ q ∷ ps) - 1 ≡ suc (length (q ∷ ps) - 1) = omega arith in
+    ap (also (p.name, w)) (some_straight (q ∷ ps) last ws (omega arith) (omega arith) (is ∙ ap (λ m. get_or (p ∷ q ∷ ps) m last) n) other)

@@ -1,6 +1,7 @@
 //! Calls of procedures.
 ghost use Rattle.std.specs.Prelude.{◌≡◌, ◌++◌, ◌∷◌, [], true, false, IfOk, IfErr, OnOk, Some, None};
-ghost use Rattle.std.specs.Prelude.{ℕ, nat_lt, option_map};
+ghost use Rattle.std.specs.Prelude.{ℕ, nat_lt, option_map, length, IsTrue};
+ghost use Rattle.std.specs.Bool.{OnTrue, OnFalse};
 ghost use Rattle.std.specs.String.{string_bytes};
 ghost use Rattle.tcl_core.specs.Endings.Reply.{Completed};
 ghost use Rattle.tcl_core.specs.Paths.{Path};
@@ -21,7 +22,7 @@ ghost use Rattle.tcl_tree.specs.TreeOf.{tree_of, Names};
 ghost use Rattle.tcl_run.specs.declared.interruption.Interruption.TheVariants.{Memory};
 ghost use Rattle.tcl_text.specs.Writing.{written_list};
 ghost use Rattle.tcl_calls.specs.Procedures.{form_of, pairs_of, joined, next_bound, Bound};
-ghost use Rattle.tcl_calls.specs.Procedures.{IsBoundTo, TooLongBound};
+ghost use Rattle.tcl_calls.specs.Procedures.{IsBoundTo, TooLongBound, Enters, straight};
 
 use std::alloc::{AllocError, Global};
 use tcl_frames::frames::Frames;
@@ -80,6 +81,133 @@ pub fn enter_frame(
     };
     frames.push(alloc, words)?;
     bind_all(frames, alloc, bindings)
+}
+
+/// Sets a parameter to a word in the frame on top. A name that can't be set is left out.
+fn bind_word(
+    frames: &mut Frames,
+    alloc: Global,
+    name: &Text,
+    word: &Value,
+) -> Result<(), Interruption>
+    ensures bound { OnOk result (frames.new ≡ bound ((name.now, word.now) ∷ []) frames.old) }
+    ensures short { OnOk result (fits word.now ≡ true) }
+    ensures memory { IfErr result (λ i. i ≡ Memory) }
+{
+    match frames.set(alloc, name, known_short(word.clone()?)) {
+        Ok(()) => Ok(()),
+        Err(FrameError::Fault(_)) => Ok(()),
+        Err(FrameError::Memory) => Err(Interruption::Memory),
+    }
+}
+
+/// Sets each parameter to the word at its place, in the frame on top. A name that can't be set is
+/// left out.
+fn bind_straight(
+    frames: &mut Frames,
+    alloc: Global,
+    parameters: &[Parameter],
+    args: &[Value],
+) -> Result<(), Interruption>
+    requires { length parameters.now ≡ length args.now }
+    ensures bound { OnOk result
+        (frames.new ≡ bound (straight parameters.now args.now) frames.old) }
+    ensures short { OnOk result (fit_all (straight parameters.now args.now) ≡ true) }
+    ensures memory { IfErr result (λ i. i ≡ Memory) }
+{
+    'parameters: for index in 0..parameters.len() {
+        bind_word(frames, alloc, &parameters[index].name, &args[index])?;
+    }
+    Ok(())
+}
+
+/// Whether each parameter takes the word at its place, and no word is left.
+fn is_straight(parameters: &[Parameter], args: &[Value]) -> bool
+    ensures even { IsTrue result → length parameters.now ≡ length args.now }
+    ensures bound { IsTrue result
+        → bindings parameters.now args.now ≡ Some (straight parameters.now args.now) }
+{
+    if parameters.len() != args.len() {
+        return false;
+    }
+    match parameters {
+        [] => true,
+        [.., last] => last.name.as_str() != "args",
+    }
+}
+
+/// Puts a frame with these words on top, in which each parameter is set to the word at its place.
+fn enter_straight(
+    tree: &mut Tree,
+    alloc: Global,
+    place: Place,
+    words: Vec<Value>,
+    parameters: &[Parameter],
+    args: &[Value],
+) -> Result<(), Interruption>
+    requires named { (p : Path) × Names tree.old place p }
+    requires even { length parameters.now ≡ length args.now }
+    ensures entered { OnOk result ((p : Path) (n : core.Node Own) → Names tree.old place p →
+        tree_of tree.old p ≡ Some n → tree_of tree.new
+        ≡ effect p (Changed (in_frame words.items (straight parameters.now args.now) n.own))
+        (tree_of tree.old)) }
+    ensures short { OnOk result (fit_all (straight parameters.now args.now) ≡ true) }
+    ensures memory { IfErr result (λ i. i ≡ Memory) }
+    ensures level { IsLevel tree.old tree.new }
+{
+    let Some(frames) = tree.frames_of(place) else {
+        return Err(Interruption::Memory);
+    };
+    frames.push(alloc, words)?;
+    bind_straight(frames, alloc, parameters, args)
+}
+
+/// The words of a call.
+fn words_of_call(alloc: Global, word: &Value, args: &[Value]) -> Result<Vec<Value>, AllocError>
+    ensures { IfOk result (λ words. words.items ≡ word.now ∷ args.now) }
+{
+    let mut words = Vec::with_capacity(alloc, args.len().saturating_add(1))?;
+    words.push(word.clone()?)?;
+    'args: for arg in args {
+        words.push(arg.clone()?)?;
+    }
+    Ok(words)
+}
+
+/// Binds the parameters of a call in a frame of its own, which is put on top. False where words are
+/// too few or too many, and nothing has changed then. Mostly there is one word for each parameter,
+/// and they are set without a list of what they are bound to.
+///
+/// # Errors
+/// 122 of a list of arguments, where nothing has changed; want of memory.
+#[inline(never)]
+pub fn enter(
+    tree: &mut Tree,
+    alloc: Global,
+    place: Place,
+    parameters: &[Parameter],
+    word: &Value,
+    args: &[Value],
+) -> Result<bool, Interruption>
+    requires { (p : Path) × Names tree.old place p }
+    ensures entered { IfOk result (λ is. OnTrue is
+        (Enters tree.old place parameters.now word.now args.now tree.new)) }
+    ensures unbound { IfOk result (λ is. OnFalse is
+        ((bindings parameters.now args.now ≡ None) × (tree.new ≡ tree.old))) }
+    ensures refused { IfErr result (λ i. Interrupts i
+        (λ e. TooLongBound (bindings parameters.now args.now) e × (tree.new ≡ tree.old))) }
+    ensures level { IsLevel tree.old tree.new }
+{
+    let words = words_of_call(alloc, word, args)?;
+    if is_straight(parameters, args) {
+        enter_straight(tree, alloc, place, words, parameters, args)?;
+        return Ok(true);
+    }
+    let Some(bindings) = bind(alloc, parameters, args)? else {
+        return Ok(false);
+    };
+    enter_frame(tree, alloc, place, words, bindings.as_slice())?;
+    Ok(true)
 }
 
 /// Takes the frame on top off, where the interpreter isn't gone.

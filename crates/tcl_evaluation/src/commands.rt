@@ -1,5 +1,5 @@
 //! Calls of commands.
-ghost use Rattle.std.specs.Prelude.{◌≡◌, ◌∷◌, Some, IfOk};
+ghost use Rattle.std.specs.Prelude.{Some};
 ghost use Rattle.tcl_language.specs.Control.{procedure as procedure_program};
 ghost use Rattle.tcl_language.specs.Faults as faults;
 ghost use Rattle.tcl_language.specs.Table.{called, dispatch, invoked, builtin as builtin_program};
@@ -19,11 +19,11 @@ use crate::loops::{dict, foreach, uplevel};
 use crate::sourcing::source;
 use crate::switching::switch;
 use crate::trying::try_script;
-use std::alloc::{AllocError, Global};
+use std::alloc::Global;
 use tcl_builtins::plain::call_plain;
 use tcl_calls::host_calls::HostCommand;
 use tcl_calls::lookup::{find_command, find_hidden};
-use tcl_calls::procedures::{bind, enter_frame, leave_frame, wrong_form};
+use tcl_calls::procedures::{enter, leave_frame, wrong_form};
 use tcl_flow::completion::leave_proc;
 use tcl_interp::naming::rename;
 use tcl_run::interruption::Interruption;
@@ -180,26 +180,12 @@ fn call_procedure<O: Outside>(
     ensures here { OnCompletion result (IsHere tree.old tree.new place) }
     ensures keeps { Keeps O.entries_left tree.old tree.new outside.old outside.new }
 {
-    let Some(bindings) = bind(alloc, procedure.parameters(), args)? else {
+    if !enter(tree, alloc, place, procedure.parameters(), word, args)? {
         return Err(wrong_form(alloc, word, procedure.parameters()));
-    };
-    let words = words_of_call(alloc, word, args)?;
-    enter_frame(tree, alloc, place, words, bindings.as_slice())?;
+    }
     let ended = eval_value(tree, alloc, outside, place, procedure.body());
     leave_frame(tree, place);
     left_proc(alloc, ended)
-}
-
-/// The words of a call.
-fn words_of_call(alloc: Global, word: &Value, args: &[Value]) -> Result<Vec<Value>, AllocError>
-    ensures { IfOk result (λ words. words.items ≡ word.now ∷ args.now) }
-{
-    let mut words = Vec::with_capacity(alloc, args.len().saturating_add(1))?;
-    words.push(word.clone()?)?;
-    'args: for arg in args {
-        words.push(arg.clone()?)?;
-    }
-    Ok(words)
 }
 
 /// The end of a call whose body ended so.

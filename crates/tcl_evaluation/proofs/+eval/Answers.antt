@@ -20,20 +20,19 @@ use Rattle.tcl_calls.specs.Words.{EndsBy, opens}
 use Rattle.tcl_parser.specs.Words.{WordRead}
 use Rattle.tcl_language.specs.Instructions.{fits, Open}
 use Rattle.tcl_run.proofs.Endings.{IfEnded-at, Interrupts-more, Interrupts-at}
-use Rattle.tcl_run.proofs.Proceeding.{at_prog, at_reply}
+use Rattle.tcl_run.proofs.Proceeding.{at_finish, at_prog, at_reply}
 use Rattle.tcl_run.proofs.Steady.{called_here, here-refl, here-trans, still_at, still_named, still_running, steady-trans, steady_holds, level_here, level_steady, nested_here, nested_holds, nested_innermost, nested_steady, nested_held, level_held, level-refl, same_level, begun_at, less_room, stands}
 use Rattle.tcl_run.proofs.Keeping.{keeps-refl, keeps-trans, level_keeps, charged_keeps, told_keeps}
 use Rattle.tcl_words_at_hand.proofs.Steps
 use Rattle.tcl_words_at_hand.proofs.Steps.{stays_of, EndsFrom, TextEnds, text_ends, VariableEnds, variable_ends, EndsAt, appended, forgets, both}
 use Rattle.std.proofs.Common.{true, None}
 use Rattle.tcl_core.specs.Endings.{Reply}
-use Rattle.tcl_core.specs.Trees.{effect}
-use Rattle.tcl_core.specs.Trees.What.{Changed}
-use Rattle.tcl_language.specs.Control.{procedure, bindings, in_frame, proc_form}
+use Rattle.tcl_language.specs.Control.{procedure, bindings, proc_form}
 use Rattle.tcl_language.specs.Faults.{wrong_args}
 use Rattle.tcl_run.specs.Ends.{failing}
 use Rattle.tcl_interpreter.specs.declared.parameter.Parameter.{Parameter}
-use Rattle.tcl_calls.specs.Procedures.{pairs_of, TooLongBound}
+use Rattle.std.specs.Bool.{OnTrue, OnFalse}
+use Rattle.tcl_calls.specs.Procedures.{Enters, TooLongBound}
 use Rattle.tcl_evaluation.proofs.Calling.{left_more, call_too_long, call_unbound, call_runs}
 use Rattle.tcl_words_at_hand.specs.Scripts.{read_so}
 use Rattle.std.proofs.Common.{take, ◌-◌}
@@ -1121,45 +1120,32 @@ evaluation::substitute-returns-clause-runs g t c = λ q style at.
 
 -- calls of procedures
 
-pub commands::call_procedure-returns-in_err-bindings-clause-runs : goal.commands::call_procedure-returns-in_err-bindings-clause-runs
-commands::call_procedure-returns-in_err-bindings-clause-runs g t c =
+pub commands::call_procedure-returns-in_err-enter-clause-runs : goal.commands::call_procedure-returns-in_err-enter-clause-runs
+commands::call_procedure-returns-in_err-enter-clause-runs g t c =
     let p = err_from_is_err_and c.from_residual.result c.from_residual.ensures.1 in
-    fails_err c.from_residual.result c.in_err-bindings.field-0.0 p.0 _ _ _ p.1 p.2 c.in_err-bindings.ensures.refused
-    (λ e h q style at. call_too_long style c.args.procedure.now c.args.word.now c.args.args.now e (subst (λ (ps : List Parameter). TooLongBound (bindings ps c.args.args.now) e) c.parameters.ensures h)) (λ q style at. stopped)
+    fails_err c.from_residual.result c.in_err-enter.field-0.0 p.0 _ _ _ p.1 p.2 c.in_err-enter.ensures.refused
+    (λ e h q style at. at_finish (ap tree_of h.1) (call_too_long style c.args.procedure.now c.args.word.now c.args.args.now e (subst (λ (ps : List Parameter). TooLongBound (bindings ps c.args.args.now) e) c.parameters.ensures h.0))) (λ q style at. stopped)
 
-pub commands::call_procedure-returns-in_default-clause-runs : goal.commands::call_procedure-returns-in_default-clause-runs
-commands::call_procedure-returns-in_default-clause-runs g t c =
-    let none = rw c.in_default.is at c.in_ok-bindings.ensures.bound in
-    breaks c.wrong_form.result (λ e. e ≡ Completed (failing (wrong_args (proc_form c.args.word.now c.parameters-in_default.result.now)))) _
-    (λ e h q style at. call_unbound style c.args.procedure.now c.args.word.now c.args.args.now e (ap (λ (ps : List Parameter). bindings ps c.args.args.now) (sym c.parameters.ensures) ∙ none)
-    (h ∙ ap (λ (ps : List Parameter). Completed (failing (wrong_args (proc_form c.args.word.now ps)))) c.parameters-in_default.ensures)) (λ q style at. stopped) c.wrong_form.ensures
-
-pub commands::call_procedure-returns-in_err-words-clause-runs : goal.commands::call_procedure-returns-in_err-words-clause-runs
-commands::call_procedure-returns-in_err-words-clause-runs g t c =
-    let p = err_from_is_err_and c.from_residual-in_err-words.result c.from_residual-in_err-words.ensures.1 in
-    memory_err c.from_residual-in_err-words.result p.0 _ _ p.1 p.2 (λ q style at. stopped)
-
-pub commands::call_procedure-returns-in_err-enter_frame-clause-runs : goal.commands::call_procedure-returns-in_err-enter_frame-clause-runs
-commands::call_procedure-returns-in_err-enter_frame-clause-runs g t c =
-    let p = err_from_is_err_and c.from_residual-in_err-enter_frame.result c.from_residual-in_err-enter_frame.ensures.1 in
-    memory_err c.from_residual-in_err-enter_frame.result p.0 _ _ p.1 (p.2 ∙ c.in_err-enter_frame.ensures.memory) (λ q style at. stopped)
+pub commands::call_procedure-returns-then-not-branch-clause-runs : goal.commands::call_procedure-returns-then-not-branch-clause-runs
+commands::call_procedure-returns-then-not-branch-clause-runs g t c =
+    let unbound = subst (λ b. OnFalse b ((bindings c.parameters.result.now c.args.args.now ≡ None) × (c.enter.new.tree ≡ c.args.tree.now))) c.if-not-branch.true c.in_ok-enter.ensures.unbound in
+    breaks c.wrong_form.result (λ e. e ≡ Completed (failing (wrong_args (proc_form c.args.word.now c.parameters-then-not-branch.result.now)))) _
+    (λ e h q style at. at_finish (ap tree_of unbound.1) (call_unbound style c.args.procedure.now c.args.word.now c.args.args.now e (ap (λ (ps : List Parameter). bindings ps c.args.args.now) (sym c.parameters.ensures) ∙ unbound.0)
+    (h ∙ ap (λ (ps : List Parameter). Completed (failing (wrong_args (proc_form c.args.word.now ps)))) c.parameters-then-not-branch.ensures))) (λ q style at. stopped) c.wrong_form.ensures
 
 pub commands::call_procedure-returns-clause-runs : goal.commands::call_procedure-returns-clause-runs
 commands::call_procedure-returns-clause-runs g t c =
-    let found = rw c.in-Some.is at c.in_ok-bindings.ensures.bound in
+    let entered = subst (λ b. OnTrue b (Enters c.args.tree.now c.args.place c.parameters.result.now c.args.word.now c.args.args.now c.enter.new.tree)) c.if-not-branch.false c.in_ok-enter.ensures.entered in
     left_more c.eval_value-ended.result c.left_proc.result
-    (EndsAt (ways g.O.Outside.goes g.O.Outside.loses) c.enter_frame.new.tree c.args.outside.now c.args.place (λ style. script c.body.result.now) c.eval_value-ended.new.tree c.eval_value-ended.new.outside)
+    (EndsAt (ways g.O.Outside.goes g.O.Outside.loses) c.enter.new.tree c.args.outside.now c.args.place (λ style. script c.body.result.now) c.eval_value-ended.new.tree c.eval_value-ended.new.outside)
     (EndsFrom (ways g.O.Outside.goes g.O.Outside.loses) c.args.tree.now c.args.outside.now c.args.place (λ style. procedure c.args.procedure.now c.args.word.now c.args.args.now) c.leave_frame.new.tree c.eval_value-ended.new.outside)
     c.eval_value-ended.ensures.runs c.left_proc.ensures
     (λ e f h l q style at.
     let n = stands (tree_of c.args.tree.now q) (tree_there c.args.tree.now q _ at.names) in
-    let here = still_at c.args.tree.now c.enter_frame.new.tree c.args.place q style (level_here _ _ c.args.place c.in_ok-enter_frame.ensures.level) at in
-    let entered = c.in_ok-enter_frame.ensures.entered q n.0 at.names n.1 in
-    let ws = c.in_ok-words.ensures in
-    let bs = c.as_slice.ensures.value in
-    call_runs style c.args.procedure.now c.args.word.now c.args.args.now (pairs_of c.in-Some.bindings.items) e f
-    (ap (λ (ps : List Parameter). bindings ps c.args.args.now) (sym c.parameters.ensures) ∙ found.0) found.1 n.1
-    (entered ∙ (λ i. effect q (Changed (in_frame (ws i) (pairs_of (bs i)) n.0.own)) (tree_of c.args.tree.now))) (c.leave_frame.ensures.left q n.0.depth (subst (λ (d : ℕ). Holds c.eval_value-ended.new.tree c.args.place q d) (ap depth_of n.1) (steady_holds c.args.tree.now c.eval_value-ended.new.tree c.args.place q (steady-trans c.args.tree.now c.enter_frame.new.tree c.eval_value-ended.new.tree (level_steady c.args.tree.now c.enter_frame.new.tree c.enter_frame.ensures.level) c.eval_value-ended.ensures.keeps.steady) at.names at.running)))
+    let here = still_at c.args.tree.now c.enter.new.tree c.args.place q style (level_here _ _ c.args.place c.enter.ensures.level) at in
+    call_runs style c.args.procedure.now c.args.word.now c.args.args.now entered.0 e f
+    (ap (λ (ps : List Parameter). bindings ps c.args.args.now) (sym c.parameters.ensures) ∙ entered.1) entered.2 n.1
+    (entered.3 q n.0 at.names n.1) (c.leave_frame.ensures.left q n.0.depth (subst (λ (d : ℕ). Holds c.eval_value-ended.new.tree c.args.place q d) (ap depth_of n.1) (steady_holds c.args.tree.now c.eval_value-ended.new.tree c.args.place q (steady-trans c.args.tree.now c.enter.new.tree c.eval_value-ended.new.tree (level_steady c.args.tree.now c.enter.new.tree c.enter.ensures.level) c.eval_value-ended.ensures.keeps.steady) at.names at.running)))
     (at_prog (ap script (sym c.body.ensures)) (h q style (record { names = here.names; style_is = here.style_is }))) l)
 
 pub commands::call-returns-in_default-clause-runs : goal.commands::call-returns-in_default-clause-runs
@@ -3180,15 +3166,15 @@ pub crossing::invoke-returns-in-Err-clause-here : goal.crossing::invoke-returns-
 crossing::invoke-returns-in-Err-clause-here g t c = Completes-all c.too_deep.result (IsHere c.args.tree.now c.nest_at.new.self c.args.place) (level_here c.args.tree.now c.nest_at.new.self c.args.place (same_level c.args.tree.now c.nest_at.new.self c.in-Err.ensures.marks c.in-Err.ensures.keys c.in-Err.ensures.held (c.in-Err.ensures.refused c.requires.0 c.requires.1).1))
 
 pub commands::call_procedure-leave_frame-requires : goal.commands::call_procedure-leave_frame-requires
-commands::call_procedure-leave_frame-requires g t c = (c.requires.0, depth_of (tree_of c.args.tree.now c.requires.0), steady_holds c.args.tree.now c.eval_value-ended.new.tree c.args.place c.requires.0 (steady-trans c.args.tree.now c.enter_frame.new.tree c.eval_value-ended.new.tree (level_steady c.args.tree.now c.enter_frame.new.tree c.enter_frame.ensures.level) c.eval_value-ended.ensures.keeps.steady) c.requires.1 c.requires.2)
+commands::call_procedure-leave_frame-requires g t c = (c.requires.0, depth_of (tree_of c.args.tree.now c.requires.0), steady_holds c.args.tree.now c.eval_value-ended.new.tree c.args.place c.requires.0 (steady-trans c.args.tree.now c.enter.new.tree c.eval_value-ended.new.tree (level_steady c.args.tree.now c.enter.new.tree c.enter.ensures.level) c.eval_value-ended.ensures.keeps.steady) c.requires.1 c.requires.2)
 
 pub commands::call_procedure-returns-clause-keeps : goal.commands::call_procedure-returns-clause-keeps
-commands::call_procedure-returns-clause-keeps g t c = keeps-trans (level_keeps _ c.enter_frame.ensures.level) (keeps-trans c.eval_value-ended.ensures.keeps (level_keeps _ c.leave_frame.ensures.level))
+commands::call_procedure-returns-clause-keeps g t c = keeps-trans (level_keeps _ c.enter.ensures.level) (keeps-trans c.eval_value-ended.ensures.keeps (level_keeps _ c.leave_frame.ensures.level))
 
 pub commands::call_procedure-returns-clause-here : goal.commands::call_procedure-returns-clause-here
 commands::call_procedure-returns-clause-here g t c =
     here_left c.eval_value-ended.result c.left_proc.result (IsHere c.args.tree.now c.leave_frame.new.tree c.args.place) c.left_proc.ensures
-    (here_level c.eval_value-ended.result c.args.tree.now c.eval_value-ended.new.tree c.leave_frame.new.tree c.args.place (here_then c.eval_value-ended.result c.args.tree.now c.enter_frame.new.tree c.eval_value-ended.new.tree c.args.place (level_here c.args.tree.now c.enter_frame.new.tree c.args.place c.enter_frame.ensures.level) c.eval_value-ended.ensures.here) c.leave_frame.ensures.level)
+    (here_level c.eval_value-ended.result c.args.tree.now c.eval_value-ended.new.tree c.leave_frame.new.tree c.args.place (here_then c.eval_value-ended.result c.args.tree.now c.enter.new.tree c.eval_value-ended.new.tree c.args.place (level_here c.args.tree.now c.enter.new.tree c.args.place c.enter.ensures.level) c.eval_value-ended.ensures.here) c.leave_frame.ensures.level)
 
 pub loops::uplevel-bring_back-requires : goal.loops::uplevel-bring_back-requires
 loops::uplevel-bring_back-requires g t c = (c.requires.0, depth_of (tree_of c.args.tree.now c.requires.0), steady_holds c.args.tree.now c.eval_value-ended.new.tree c.args.place c.requires.0 (steady-trans c.args.tree.now c.set_aside.new.tree c.eval_value-ended.new.tree (level_steady c.args.tree.now c.set_aside.new.tree c.set_aside.ensures.level) c.eval_value-ended.ensures.keeps.steady) c.requires.1 c.requires.2)
@@ -3319,8 +3305,8 @@ evaluation::substitute-returns-in_err-from_string-clause-here g t c = on_complet
 pub evaluation::substitute-returns-clause-here : goal.evaluation::substitute-returns-clause-here
 evaluation::substitute-returns-clause-here g t c = c.parts.invariant.here
 
-pub commands::call_procedure-returns-in_err-enter_frame-clause-here : goal.commands::call_procedure-returns-in_err-enter_frame-clause-here
-commands::call_procedure-returns-in_err-enter_frame-clause-here g t c = on_completion c.from_residual-in_err-enter_frame.result (IsHere c.args.tree.now c.enter_frame.new.tree c.args.place) (level_here c.args.tree.now c.enter_frame.new.tree c.args.place c.enter_frame.ensures.level)
+pub commands::call_procedure-returns-in_err-enter-clause-here : goal.commands::call_procedure-returns-in_err-enter-clause-here
+commands::call_procedure-returns-in_err-enter-clause-here g t c = on_completion c.from_residual.result (IsHere c.args.tree.now c.enter.new.tree c.args.place) (level_here c.args.tree.now c.enter.new.tree c.args.place c.enter.ensures.level)
 
 pub control::catch-returns-in_err-completion-clause-here : goal.control::catch-returns-in_err-completion-clause-here
 control::catch-returns-in_err-completion-clause-here g t c =
@@ -3372,8 +3358,11 @@ crossing::invoke_at-returns-in_err-set_aside-clause-here g t c = on_completion c
 pub crossing::invoke_at-returns-in_err-set_aside-clause-keeps : goal.crossing::invoke_at-returns-in_err-set_aside-clause-keeps
 crossing::invoke_at-returns-in_err-set_aside-clause-keeps g t c = level_keeps _ c.set_aside.ensures.level
 
-pub commands::call_procedure-returns-in_err-enter_frame-clause-keeps : goal.commands::call_procedure-returns-in_err-enter_frame-clause-keeps
-commands::call_procedure-returns-in_err-enter_frame-clause-keeps g t c = level_keeps _ c.enter_frame.ensures.level
+pub commands::call_procedure-returns-in_err-enter-clause-keeps : goal.commands::call_procedure-returns-in_err-enter-clause-keeps
+commands::call_procedure-returns-in_err-enter-clause-keeps g t c = level_keeps _ c.enter.ensures.level
+
+pub commands::call_procedure-returns-then-not-branch-clause-keeps : goal.commands::call_procedure-returns-then-not-branch-clause-keeps
+commands::call_procedure-returns-then-not-branch-clause-keeps g t c = level_keeps _ c.enter.ensures.level
 
 pub expressions::expression-returns-in-Some-clause-here : goal.expressions::expression-returns-in-Some-clause-here
 expressions::expression-returns-in-Some-clause-here g t c = here-refl c.args.tree.now c.args.place
@@ -3639,12 +3628,6 @@ commands::call-returns-in_err-command-clause-here g t c = unmoved c.from_residua
 pub commands::call_hidden-returns-in_err-command-clause-here : goal.commands::call_hidden-returns-in_err-command-clause-here
 commands::call_hidden-returns-in_err-command-clause-here g t c = unmoved c.from_residual.result c.args.tree.now c.args.place
 
-pub commands::call_procedure-returns-in_err-bindings-clause-here : goal.commands::call_procedure-returns-in_err-bindings-clause-here
-commands::call_procedure-returns-in_err-bindings-clause-here g t c = unmoved c.from_residual.result c.args.tree.now c.args.place
-
-pub commands::call_procedure-returns-in_err-words-clause-here : goal.commands::call_procedure-returns-in_err-words-clause-here
-commands::call_procedure-returns-in_err-words-clause-here g t c = unmoved c.from_residual-in_err-words.result c.args.tree.now c.args.place
-
 pub control::eval-returns-in_err-script-clause-here : goal.control::eval-returns-in_err-script-clause-here
 control::eval-returns-in_err-script-clause-here g t c = unmoved c.from_residual.result c.args.tree.now c.args.place
 
@@ -3796,8 +3779,8 @@ crossing::call_alias-returns-in-Missing-clause-here g t c = unmoved c.miss_alias
 pub crossing::ask_below-returns-in-Missing-clause-here : goal.crossing::ask_below-returns-in-Missing-clause-here
 crossing::ask_below-returns-in-Missing-clause-here g t c = unmoved c.find_nobody.result c.args.tree.now c.args.place
 
-pub commands::call_procedure-returns-in_default-clause-here : goal.commands::call_procedure-returns-in_default-clause-here
-commands::call_procedure-returns-in_default-clause-here g t c = Completes-all c.wrong_form.result (IsHere c.args.tree.now c.args.tree.now c.args.place) (here-refl c.args.tree.now c.args.place)
+pub commands::call_procedure-returns-then-not-branch-clause-here : goal.commands::call_procedure-returns-then-not-branch-clause-here
+commands::call_procedure-returns-then-not-branch-clause-here g t c = Completes-all c.wrong_form.result (IsHere c.args.tree.now c.enter.new.tree c.args.place) (level_here c.args.tree.now c.enter.new.tree c.args.place c.enter.ensures.level)
 
 pub control::catch-returns-in_default-clause-here : goal.control::catch-returns-in_default-clause-here
 control::catch-returns-in_default-clause-here g t c = Completes-all c.wrong_args.result (IsHere c.args.tree.now c.args.tree.now c.args.place) (here-refl c.args.tree.now c.args.place)
