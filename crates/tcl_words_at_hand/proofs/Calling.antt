@@ -21,7 +21,7 @@ use Rattle.tcl_run.specs.Runs.{Proceeds, Ways}
 use Rattle.tcl_run.proofs.Proceeding.{at_prog, completed}
 use Rattle.tcl_text.specs.declared.integer.Integers.{Integers}
 use Rattle.tcl_tree.specs.Own.{Own}
-use Rattle.tcl_words_at_hand.specs.Hands.{AllEnd, AllStand, EndsAs, IsSum, IsSumWord, StandsFor, one_of}
+use Rattle.tcl_words_at_hand.specs.Hands.{AllEnd, AllStand, EndsAs, IsSum, StandsFor, one_of}
 use Rattle.tcl_words_at_hand.specs.Scripts.{read_so}
 use Rattle.tcl_words_at_hand.proofs.Steps.{lone, script_goes, script_stays, single_goes, variable_goes, word_stays}
 
