@@ -88,7 +88,8 @@ pub fn sum_at_hand(tree: &Tree, alloc: Global, place: Place, script: &Prepared) 
     if args.len() != 1 {
         return None;
     }
-    let Command::Builtin(builtin) = command_named(tree, alloc, place, word)? else {
+    let command = command_named(tree, alloc, place, word)?;
+    let Command::Builtin(builtin) = command else {
         return None;
     };
     let Builtin::Expr = builtin else {

@@ -34,7 +34,7 @@ returns-clause-at_hand c = λ p n names there.
       argument = argument;
       is = λ i. record { commands = commands i; fault = fault i };
       within = subst AllWithin texts c.words.ensures.within;
-      named = subst (λ (b : Builtin). IsNamed n word (command.Builtin b)) c.in-Expr.is (subst (λ (x : Command). IsNamed n word x) c.in-Builtin.is (c.in_ok-command_named.ensures p n names there));
+      named = subst (λ (b : Builtin). IsNamed n word (command.Builtin b)) c.in-Expr.is (subst (λ (x : Command). IsNamed n word x) c.in-Builtin.is (c.in_ok-command.ensures p n names there));
       short = ap (λ (ts : List (List ℕ)). fits (concat ts)) (sym alone) ∙ c.in-Ok.ensures.whole.1;
       kept = c.in-Ok-read_expression.kept.value;
       is_kept = subst (λ (x : List ℕ). IsKept c.args.tree.now.integers x c.in-Ok-read_expression.kept.value) text (subst (λ s. IsKept s c.in-Ok.text c.in-Ok-read_expression.kept.value) c.integers-style.ensures c.in-Ok-read_expression.ensures.read);
