@@ -1634,9 +1634,9 @@ expressions::if_one-returns-in_err-condition-clause-here g t c =
 pub expressions::if_one-eval_value-requires : goal.expressions::if_one-eval_value-requires
 expressions::if_one-eval_value-requires g t c κs within = (search rules, (search rules, let r = still_running c.args.tree.now c.condition.new.tree c.args.place c.in_ok-condition.ensures.here c.requires in (r.0, r.1)))
 
-pub expressions::if_one-returns-then-condition-clause-runs : goal.expressions::if_one-returns-then-condition-clause-runs
-expressions::if_one-returns-then-condition-clause-runs g t c =
-    let holds = subst (TestGoes (ways g.O.Outside.goes g.O.Outside.loses) c.args.tree.now c.args.outside.now c.args.place c.deref.result.now c.condition.new.tree c.condition.new.outside) c.if-condition.true c.in_ok-condition.ensures.runs in
+pub expressions::if_one-returns-then-branch-clause-runs : goal.expressions::if_one-returns-then-branch-clause-runs
+expressions::if_one-returns-then-branch-clause-runs g t c =
+    let holds = subst (TestGoes (ways g.O.Outside.goes g.O.Outside.loses) c.args.tree.now c.args.outside.now c.args.place c.deref.result.now c.condition.new.tree c.condition.new.outside) c.if-branch.true c.in_ok-condition.ensures.runs in
     IfRan-more c.eval_value.result
     (EndsAt (ways g.O.Outside.goes g.O.Outside.loses) c.condition.new.tree c.condition.new.outside c.args.place (λ style. script c.args.body.now) c.eval_value.new.tree c.eval_value.new.outside)
     (EndsFrom (ways g.O.Outside.goes g.O.Outside.loses) c.args.tree.now c.args.outside.now c.args.place (λ style. first_true style ((c.args.test.now, c.args.body.now) ∷ []) (option_copied c.args.last)) c.eval_value.new.tree c.eval_value.new.outside)
@@ -1646,15 +1646,15 @@ expressions::if_one-returns-then-condition-clause-runs g t c =
     holds q style at c.args.test.now (Conditions.kept_behind c.integers.result style c.args.test.now c.in_ok-kept.kept.value c.deref.result.now c.deref.ensures same c.in_ok-kept.ensures.read) _ _ _ _
     (goes_done {i = Script c.args.body.now} (h q style (record { names = after.names; style_is = after.style_is })))) c.eval_value.ensures.runs
 
-pub expressions::if_one-returns-then-condition-clause-here : goal.expressions::if_one-returns-then-condition-clause-here
-expressions::if_one-returns-then-condition-clause-here g t c = here_then c.eval_value.result c.args.tree.now c.condition.new.tree c.eval_value.new.tree c.args.place c.in_ok-condition.ensures.here c.eval_value.ensures.here
+pub expressions::if_one-returns-then-branch-clause-here : goal.expressions::if_one-returns-then-branch-clause-here
+expressions::if_one-returns-then-branch-clause-here g t c = here_then c.eval_value.result c.args.tree.now c.condition.new.tree c.eval_value.new.tree c.args.place c.in_ok-condition.ensures.here c.eval_value.ensures.here
 
-pub expressions::if_one-returns-then-condition-clause-keeps : goal.expressions::if_one-returns-then-condition-clause-keeps
-expressions::if_one-returns-then-condition-clause-keeps g t c = keeps-trans c.condition.ensures.keeps c.eval_value.ensures.keeps
+pub expressions::if_one-returns-then-branch-clause-keeps : goal.expressions::if_one-returns-then-branch-clause-keeps
+expressions::if_one-returns-then-branch-clause-keeps g t c = keeps-trans c.condition.ensures.keeps c.eval_value.ensures.keeps
 
 pub expressions::if_one-returns-in_default-clause-runs : goal.expressions::if_one-returns-in_default-clause-runs
 expressions::if_one-returns-in_default-clause-runs g t c = λ q style at.
-    let fails = subst (TestGoes (ways g.O.Outside.goes g.O.Outside.loses) c.args.tree.now c.args.outside.now c.args.place c.deref.result.now c.condition.new.tree c.condition.new.outside) c.if-condition.false c.in_ok-condition.ensures.runs in
+    let fails = subst (TestGoes (ways g.O.Outside.goes g.O.Outside.loses) c.args.tree.now c.args.outside.now c.args.place c.deref.result.now c.condition.new.tree c.condition.new.outside) c.if-branch.false c.in_ok-condition.ensures.runs in
     let same = c.integers.ensures ∙ at.style_is in
     fails q style at c.args.test.now (Conditions.kept_behind c.integers.result style c.args.test.now c.in_ok-kept.kept.value c.deref.result.now c.deref.ensures same c.in_ok-kept.ensures.read) _ _ _ _
     (Conditions.last_none style _ (ap option_copied c.in_default.is) (ap (λ (x : List ℕ). Completed (ok x)) c.empty.ensures))
@@ -1664,7 +1664,7 @@ expressions::if_one-eval_value-requires-2 g t c κs within = (search rules, (sea
 
 pub expressions::if_one-returns-clause-runs : goal.expressions::if_one-returns-clause-runs
 expressions::if_one-returns-clause-runs g t c =
-    let fails = subst (TestGoes (ways g.O.Outside.goes g.O.Outside.loses) c.args.tree.now c.args.outside.now c.args.place c.deref.result.now c.condition.new.tree c.condition.new.outside) c.if-condition.false c.in_ok-condition.ensures.runs in
+    let fails = subst (TestGoes (ways g.O.Outside.goes g.O.Outside.loses) c.args.tree.now c.args.outside.now c.args.place c.deref.result.now c.condition.new.tree c.condition.new.outside) c.if-branch.false c.in_ok-condition.ensures.runs in
     IfRan-more c.eval_value-2.result
     (EndsAt (ways g.O.Outside.goes g.O.Outside.loses) c.condition.new.tree c.condition.new.outside c.args.place (λ style. script c.in-Some.last.now) c.eval_value-2.new.tree c.eval_value-2.new.outside)
     (EndsFrom (ways g.O.Outside.goes g.O.Outside.loses) c.args.tree.now c.args.outside.now c.args.place (λ style. first_true style ((c.args.test.now, c.args.body.now) ∷ []) (option_copied c.args.last)) c.eval_value-2.new.tree c.eval_value-2.new.outside)
