@@ -1,5 +1,5 @@
 -- Where an evaluation came to a completion its interpreter stands still: how that passes through what is done with the end.
-use Rattle.std.proofs.Common.{◌≡◌, ◌⊎◌, inl, inr, Bool, List, sym, subst}
+use Rattle.std.proofs.Common.{◌≡◌, inl, inr, Bool, List, sym, subst}
 use Rattle.std.specs.Prelude.{Result, Ok, Err}
 use Rattle.tcl_core.specs.Endings.{Completion}
 use Rattle.tcl_core.specs.Paths.{Text}

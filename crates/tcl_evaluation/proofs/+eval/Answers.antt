@@ -105,8 +105,6 @@ use Rattle.tcl_evaluation.proofs.Walking
 use Rattle.tcl_evaluation.proofs.Walking.{passed}
 use Rattle.tcl_evaluation.proofs.Conditions
 use Rattle.tcl_words_at_hand.proofs.Computing
-use Rattle.tcl_words_at_hand.proofs.Computing
-use Rattle.tcl_words_at_hand.proofs.Computing
 use Rattle.tcl_evaluation.proofs.Looping
 use Rattle.tcl_evaluation.proofs.Looping.{next_then}
 use Rattle.tcl_evaluation.specs.Conditional.{ComputesTo, TestGoes, TurnGoes, turn_then}

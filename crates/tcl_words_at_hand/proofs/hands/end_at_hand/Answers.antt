@@ -1,4 +1,4 @@
-use Rattle.std.proofs.Common.{◌≡◌, ap, subst, ◌∙◌}
+use Rattle.std.proofs.Common.{ap, subst}
 use Rattle.tcl_parser.specs.Words.{Reading, WordRead}
 use Rattle.tcl_words_at_hand.specs.Hands.{IsSum}
 use Rattle.tcl_words_at_hand.proofs.hands.end_at_hand.Goals as goal
