@@ -24,9 +24,9 @@ use tcl_value::value::Value;
 const MOST_MEMORY: usize = 1 << 24;
 
 /// The most bytes of memory that one of them takes for each byte of its text: twice for the text
-/// itself, once for each of the 17 levels at which what stands there is a text again, and once more
-/// for a literal.
-const FOR_A_BYTE: usize = 20;
+/// itself, once for each of the 17 levels at which what stands there is a text again, once more for
+/// a literal, and once for the elements of the list that one keeps.
+const FOR_A_BYTE: usize = 21;
 
 /// The most that it takes besides for each of its pieces.
 const FOR_A_PIECE: usize = 120;

@@ -1,5 +1,7 @@
 //! How many pieces prepared commands have: what a cache of them counts.
+use crate::lists::{pieces_in_values, pieces_in_words};
 use crate::prepared::{PreparedCommand, PreparedPart, PreparedWord};
+use std::alloc::Global;
 
 /// The pieces of a part: itself, and those of a script in brackets.
 fn part_pieces(part: &PreparedPart) -> usize {
@@ -42,20 +44,31 @@ fn words_pieces(words: &[PreparedWord]) -> usize {
     pieces
 }
 
-/// Those of a command: itself, and its words'.
-fn command_pieces(command: &PreparedCommand) -> usize {
+/// Those of the words of a command, and of the list that one of them keeps.
+fn all_pieces(alloc: Global, command: &PreparedCommand) -> usize {
     match command {
-        PreparedCommand::Constant(literals) => literals.words().len().saturating_add(1),
-        PreparedCommand::General(words) => words_pieces(words.as_slice()).saturating_add(1),
+        PreparedCommand::Constant(literals) => {
+            let words = literals.words();
+            words.len().saturating_add(pieces_in_values(alloc, words))
+        }
+        PreparedCommand::General(words) => {
+            let words = words.as_slice();
+            words_pieces(words).saturating_add(pieces_in_words(alloc, words))
+        }
     }
 }
 
+/// Those of a command: itself, and its words'.
+fn command_pieces(alloc: Global, command: &PreparedCommand) -> usize {
+    all_pieces(alloc, command).saturating_add(1)
+}
+
 /// The pieces of commands: their own number, and their words and parts, with the pieces of what
-/// stands in their brackets.
-pub(crate) fn commands_pieces(commands: &[PreparedCommand]) -> usize {
+/// stands in their brackets and of the lists that literals keep.
+pub(crate) fn commands_pieces(alloc: Global, commands: &[PreparedCommand]) -> usize {
     let mut pieces: usize = 0;
     'commands: for command in commands {
-        pieces = pieces.saturating_add(command_pieces(command));
+        pieces = pieces.saturating_add(command_pieces(alloc, command));
     }
     pieces
 }

@@ -6,6 +6,7 @@ ghost use Rattle.tcl_prepared.specs.Views.{seen_command};
 ghost use Rattle.tcl_prepared.specs.Brackets.{IsBracket};
 
 use crate::pieces::commands_pieces;
+use std::alloc::Global;
 use std::marker::Model;
 use tcl_parser::fault::Fault;
 use tcl_text::text::Text;
@@ -177,11 +178,15 @@ impl Model for Bracket {
 
 impl Prepared {
     /// A script of these commands, with the fault that comes after them.
-    pub(crate) fn new(commands: Vec<PreparedCommand>, fault: Option<Fault>) -> Prepared
+    pub(crate) fn new(
+        alloc: Global,
+        commands: Vec<PreparedCommand>,
+        fault: Option<Fault>,
+    ) -> Prepared
         ensures commands { result.commands ≡ map seen_command commands.items }
         ensures fault { result.fault ≡ fault }
     {
-        let pieces = commands_pieces(commands.as_slice());
+        let pieces = commands_pieces(alloc, commands.as_slice());
         Prepared {
             commands,
             fault,
@@ -204,7 +209,8 @@ impl Prepared {
     }
 
     /// How many pieces it is made of: its commands, words and parts, with those of the scripts in
-    /// its brackets. A piece takes at most 120 bytes and the bytes of its text.
+    /// its brackets, and the elements of lists that literals keep. A piece takes at most 120 bytes
+    /// and the bytes of its text.
     pub fn pieces(&self) -> usize {
         self.pieces
     }

@@ -10,6 +10,7 @@ ghost use Rattle.tcl_prepared.specs.Views.{literal_parts, literal_word};
 ghost use Rattle.tcl_prepared.specs.Brackets.{part_weight, parts_weight, words_weight};
 ghost use Rattle.tcl_prepared.specs.Brackets.{commands_weight};
 
+use crate::lists::{keep_in_values, keep_in_words};
 use crate::operand::Operand;
 use crate::prepared::{Bracket, Literals, Prepared, PreparedCommand, PreparedPart, PreparedWord};
 use std::alloc::{AllocError, Global};
@@ -150,6 +151,7 @@ fn literal_values(alloc: Global, words: &[Word]) -> Result<Option<Literals>, All
             None => return Ok(None),
         }
     }
+    keep_in_values(alloc, &mut values);
     Ok(Some(Literals::new(values)))
 }
 
@@ -192,7 +194,7 @@ fn prepare_to(alloc: Global, script: &Script, levels: u32) -> Result<Prepared, A
     'commands: for command in &script.commands {
         commands.push(prepare_command(alloc, command, levels)?)?;
     }
-    Ok(Prepared::new(commands, script.fault))
+    Ok(Prepared::new(alloc, commands, script.fault))
 }
 
 /// Prepares a command.
@@ -206,11 +208,11 @@ fn prepare_command(
 {
     match literal_values(alloc, command.words.as_slice())? {
         Some(values) => Ok(PreparedCommand::Constant(values)),
-        None => Ok(PreparedCommand::General(prepare_words(
-            alloc,
-            command.words.as_slice(),
-            levels,
-        )?)),
+        None => {
+            let mut words = prepare_words(alloc, command.words.as_slice(), levels)?;
+            keep_in_words(alloc, &mut words);
+            Ok(PreparedCommand::General(words))
+        }
     }
 }
 
