@@ -5,3 +5,4 @@ pub mod StandLemmas
 pub mod ByteLemmas
 pub mod MapLemmas
 pub mod Trims
+pub mod StartLemmas

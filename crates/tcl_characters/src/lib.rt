@@ -10,4 +10,5 @@ pub mod mapping;
 pub mod order;
 pub mod parts;
 pub mod places;
+pub mod starts;
 pub mod trimming;

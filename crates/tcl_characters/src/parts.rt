@@ -3,14 +3,13 @@ ghost use Rattle.std.specs.Prelude.{◌≡◌, length, take, drop};
 ghost use Rattle.std.specs.Str.{chars};
 ghost use Rattle.tcl_characters.specs.Texts.{text_of};
 
-use tcl_text::characters::{first_characters, skip_characters};
+use crate::starts::{first_characters, skip_characters, starts_in};
 
 /// How many characters a text has.
-#[tactic(auto, using(std::proofs::lemmas::Str::chars_from_encodes))]
 pub fn character_count(text: &str) -> usize
     ensures { result ≡ length (chars text.now) }
 {
-    text.chars().count()
+    starts_in(text.as_bytes())
 }
 
 /// The first characters of a text, as many as are asked for or all.

@@ -5,8 +5,8 @@ ghost use Rattle.tcl_characters.specs.Places.{first_from, last_from, first_place
 ghost use Rattle.tcl_characters.specs.Places.{counted_from};
 
 use crate::parts::character_count;
+use crate::starts::{first_characters, skip_characters};
 use memchr::memmem;
-use tcl_text::characters::{first_characters, skip_characters};
 
 /// The first place of a needle in a text.
 fn first_within(needle: &str, text: &str) -> Option<usize>

@@ -4,7 +4,7 @@ ghost use Rattle.std.specs.Str.{chars};
 ghost use Rattle.tcl_words.specs.Spans.{before, up_to, from, behind, span};
 ghost use Rattle.tcl_characters.specs.Texts.{text_of};
 
-use tcl_text::characters::{first_characters, skip_characters};
+use tcl_characters::starts::{first_characters, skip_characters};
 use tcl_text::index::Index;
 
 /// The characters before a place.
