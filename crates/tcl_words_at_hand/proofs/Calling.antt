@@ -1,12 +1,11 @@
 -- What calls come to whose words are at hand.
-use Rattle.std.proofs.Common.{◌≡◌, ◌⊎◌, inl, inr, ℕ, Bool, true, false, List, [], ◌∷◌, ◌++◌, Some, None, refl, sym, ◌∙◌, ap, subst, append-nil, append_assoc}
-use Rattle.std.specs.Prelude.{Ok}
+use Rattle.std.proofs.Common.{◌≡◌, ◌⊎◌, inl, inr, ℕ, ◌≤◌, Bool, true, false, List, [], ◌∷◌, ◌++◌, length, Some, None, refl, sym, ◌∙◌, ap, subst, append-nil, append_assoc, length-append, arith}
+use Rattle.std.proofs.lemmas.Bool.Decides.{nat_tests}
 use Rattle.tcl_core.specs.Paths.{Path}
 use Rattle.tcl_core.specs.Endings.{ok}
 use Rattle.tcl_core.specs.Endings.Reply.{Completed}
 use Rattle.tcl_core.specs.Runs.{Ending}
 use Rattle.tcl_core.specs.Trees.{Tree, Node}
-use Rattle.tcl_frames.specs.Chain.{read}
 use Rattle.tcl_frames.specs.Places.{Levels}
 use Rattle.tcl_language.specs.Instructions.{fits}
 use Rattle.tcl_language.specs.Scripts.{parts, words}
@@ -14,20 +13,28 @@ use Rattle.tcl_language_laws.specs.Language.{language}
 use Rattle.tcl_parser.specs.Reading.{read_script}
 use Rattle.tcl_parser.specs.Words.{WordRead}
 use Rattle.tcl_parser.specs.declared.script.Part.{Part}
-use Rattle.tcl_parser.specs.declared.script.Part.TheVariants.{Variable}
+use Rattle.tcl_parser.specs.declared.script.Part.TheVariants.{Literal, Variable, Element, EndElement, Script}
 use Rattle.tcl_prepared.specs.Views.{literal_parts, literal_word}
 use Rattle.tcl_run.specs.Ends.{Stays}
 use Rattle.tcl_run.specs.Runs.{Proceeds, Ways}
-use Rattle.tcl_run.proofs.Proceeding.{at_prog, completed}
+use Rattle.tcl_run.proofs.Proceeding.{at_prog, at_reply, completed}
 use Rattle.tcl_text.specs.declared.integer.Integers.{Integers}
 use Rattle.tcl_tree.specs.Own.{Own}
-use Rattle.tcl_words_at_hand.specs.Hands.{AllEnd, AllStand, EndsAs, IsSum, StandsFor, one_of}
+use Rattle.tcl_words_at_hand.specs.Hands.{AllEnd, AllStand, EndsAs, IsSum, PartStands, PartsStand, StandsFor, one_of}
 use Rattle.tcl_words_at_hand.specs.Scripts.{read_so}
-use Rattle.tcl_words_at_hand.proofs.Steps.{lone, script_goes, script_stays, single_goes, variable_goes, word_stays}
+use Rattle.tcl_words_at_hand.proofs.Standing.{literal_parts_stand}
+use Rattle.tcl_words_at_hand.proofs.Steps.{literal_goes, script_goes, script_stays, single_goes, variable_goes, within_fits, word_stays}
+
+-- the front of a text within the limit is within it
+shorter_fits : (front rest : List ℕ) → fits (front ++ rest) ≡ true → fits front ≡ true
+shorter_fits front rest h =
+    let whole : length (front ++ rest) ≤ 16777216 = grind (arith, nat_tests) in
+    let len = length-append front rest in
+    within_fits front (omega (arith, len, whole))
 
 -- a literal stands for its text
 pub literal_stands : (frames : Levels) (word : WordRead) (text : List ℕ) → word ≡ literal_word text → fits text ≡ true → StandsFor frames word text
-literal_stands frames word text e f = record { single = ap (λ (w : WordRead). w.expand) e; short = f; by = inl (ap (λ (w : WordRead). w.parts) e) }
+literal_stands frames word text e f = record { single = ap (λ (w : WordRead). w.expand) e; short = f; by = subst (λ (ps : List Part). PartsStand frames ps text) (sym (ap (λ (w : WordRead). w.parts) e)) (literal_parts_stand frames text) }
 
 -- where none of the words is a sum, all stand for texts
 pub none_sums : (style : Integers) (n : Node Own) (ws : List WordRead) (ts : List (List ℕ)) → AllEnd style n ws false ts → AllStand n.own.chain.frames ws ts
@@ -40,14 +47,30 @@ none_sums style n (w ∷ ws) (x ∷ ts) (inr h) = let clash : false ≡ true = h
 module _ {S : Type 0} {ways : Ways S} (style : Integers) where
   -- ## Words that stand for texts
 
+  parts_go : {T : Tree Own} {o : S} {p : Path} {n : Node Own} (ps : List Part) (before text : List ℕ) → T p ≡ Some n → PartsStand n.own.chain.frames ps text → fits (before ++ text) ≡ true →
+      Proceeds ways (language style) T o p (parts ps [] before) T o (Some (Completed (ok (before ++ text))))
+  parts_go [] before text there h short = at_reply (ap (λ (t : List ℕ). Completed (ok (before ++ t))) h ∙ ap (λ (t : List ℕ). Completed (ok t)) (append-nil before)) completed
+  parts_go {T} {o} {p} {n} (x ∷ ps) before text there h short = by x h.3
+    where
+      whole : fits ((before ++ h.0) ++ h.1) ≡ true
+      whole = ap fits (append_assoc before h.0 h.1 ∙ ap (λ (t : List ℕ). before ++ t) (sym h.2)) ∙ short
+
+      first : fits (before ++ h.0) ≡ true
+      first = shorter_fits (before ++ h.0) h.1 whole
+
+      rest : Proceeds ways (language style) T o p (parts ps [] (before ++ h.0)) T o (Some (Completed (ok (before ++ text))))
+      rest = at_reply (ap (λ (t : List ℕ). Completed (ok t)) (ap (λ (t : List ℕ). before ++ t) h.2 ∙ sym (append_assoc before h.0 h.1))) (parts_go ps (before ++ h.0) h.1 there h.4 whole)
+
+      by : (x : Part) → PartStands n.own.chain.frames x h.0 → Proceeds ways (language style) T o p (parts (x ∷ ps) [] before) T o (Some (Completed (ok (before ++ text))))
+      by (Literal more) e = literal_goes style more ps [] before (ap (λ (t : List ℕ). fits (before ++ t)) e ∙ first) (at_prog (ap (λ (t : List ℕ). parts ps [] (before ++ t)) e) rest)
+      by (Variable name) e = variable_goes style name h.0 ps [] before there e first rest
+      by (Element name) e = elim e [ ]
+      by EndElement e = elim e [ ]
+      by (Script inner) e = elim e [ ]
+
   stands_goes : {T V : Tree Own} {o z : S} {p : Path} {n : Node Own} {r : Ending} (word : WordRead) (rest : List WordRead) (before : List (List ℕ)) (text : List ℕ) → T p ≡ Some n → StandsFor n.own.chain.frames word text →
       Proceeds ways (language style) T o p (words rest (before ++ text ∷ [])) V z r → Proceeds ways (language style) T o p (words (word ∷ rest) before) V z r
-  stands_goes {T} {V} {o} {z} {p} {n} {r} word rest before text there s t = single_goes style word rest before (ok text) text s.single refl refl (by s.by) t
-    where
-      by : (word.parts ≡ literal_parts text) ⊎ ((name : List ℕ) × (word.parts ≡ Variable name ∷ []) × (read n.own.chain.frames name ≡ Ok text)) →
-          Proceeds ways (language style) T o p (parts word.parts [] []) T o (Some (Completed (ok text)))
-      by (inl e) = at_prog (ap (λ (ps : List Part). parts ps [] []) e) (lone style text s.short)
-      by (inr h) = at_prog (ap (λ (ps : List Part). parts ps [] []) h.1) (variable_goes style h.0 text [] [] [] there h.2 s.short completed)
+  stands_goes word rest before text there s t = single_goes style word rest before (ok text) text s.single refl refl (parts_go word.parts [] text there s.by s.short) t
 
   all_stand : {T V : Tree Own} {o z : S} {p : Path} {n : Node Own} {r : Ending} (ws rest : List WordRead) (before ts : List (List ℕ)) → T p ≡ Some n → AllStand n.own.chain.frames ws ts →
       Proceeds ways (language style) T o p (words rest (before ++ ts)) V z r → Proceeds ways (language style) T o p (words (ws ++ rest) before) V z r

@@ -4,5 +4,6 @@ pub mod Computing
 pub mod Found
 pub mod Own
 pub mod Plainly
+mod Standing
 pub mod Steps
 mod Summing

@@ -1,6 +1,7 @@
 -- Words, expressions and commands that are at hand in an interpreter: what they come to is known
 -- without an evaluation.
-use Rattle.std.specs.Prelude.{◌≡◌, ◌⊎◌, Bool, true, false, ℤ, List, [], ◌∷◌, Option, Some, None, Ok}
+use Rattle.std.specs.Prelude.{◌≡◌, ◌⊎◌, Bool, true, false, ℤ, List, [], ◌∷◌, ◌++◌, Option}
+use Rattle.std.specs.Prelude.{Some, None, Ok}
 use Rattle.std.specs.Fmt.{signed_decimal}
 use Rattle.tcl_core.specs.Paths.{Text, Path}
 use Rattle.tcl_core.specs.Trees.{Node}
@@ -15,8 +16,9 @@ use Rattle.tcl_language.specs.Words.{concat}
 use Rattle.tcl_number_expressions.specs.AtHand.{IsNumberAtHand}
 use Rattle.tcl_parser.specs.Reading.{read_script}
 use Rattle.tcl_parser.specs.Words.{WordRead, Reading}
-use Rattle.tcl_parser.specs.declared.script.Part.TheVariants.{Variable, Script}
-use Rattle.tcl_prepared.specs.Views.{literal_parts, literal_word}
+use Rattle.tcl_parser.specs.declared.script.Part.{Part}
+use Rattle.tcl_parser.specs.declared.script.Part.TheVariants.{Literal, Variable, Script}
+use Rattle.tcl_prepared.specs.Views.{literal_word}
 use Rattle.tcl_text.specs.declared.integer.Integers.{Integers}
 use Rattle.tcl_tree.specs.Own.{Own}
 use Rattle.tcl_tree.specs.TreeOf.{tree_of, marks_of, Names}
@@ -30,12 +32,28 @@ use Rattle.tcl_calls.specs.Found.{found}
 
 -- ## Words
 
--- the word isn't spread, and it stands for the text: it is that text, or a variable that holds it
+-- the part stands for the text: it is that text, or a variable that holds it
+abbrev pub PartStands : Levels → Part → Text → Type 0
+PartStands frames (Literal more) text = more ≡ text
+PartStands frames (Variable name) text = read frames name ≡ Ok text
+PartStands frames other text = Prim.⊥
+
+-- what the part stands for comes behind a text
+abbrev pub PartAdds : Levels → Part → Text → Text → Type 0
+PartAdds frames part before after = (text : Text) × (after ≡ before ++ text) ×
+    PartStands frames part text
+
+-- the parts stand, one behind the other, for the text
+abbrev pub PartsStand : Levels → List Part → Text → Type 0
+PartsStand frames [] text = text ≡ []
+PartsStand frames (part ∷ parts) text = (first : Text) × (rest : Text) × (text ≡ first ++ rest) ×
+    PartStands frames part first × PartsStand frames parts rest
+
+-- the word isn't spread, and its parts stand for the text
 pub record StandsFor (frames : Levels) (word : WordRead) (text : Text) : Type 0 where
   pub single : word.expand ≡ false
   pub short : fits text ≡ true
-  pub by : (word.parts ≡ literal_parts text) ⊎
-      ((name : Text) × (word.parts ≡ Variable name ∷ []) × (read frames name ≡ Ok text))
+  pub by : PartsStand frames word.parts text
 
 -- each word stands for the text at its place
 abbrev pub AllStand : Levels → List WordRead → List Text → Type 0

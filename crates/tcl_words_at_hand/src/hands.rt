@@ -4,8 +4,9 @@ ghost use Rattle.tcl_builtins.specs.Kinds.{is_plain};
 ghost use Rattle.tcl_interpreter.specs.declared.command.Command.TheVariants as variant;
 ghost use Rattle.tcl_language.specs.Instructions.{fits};
 ghost use Rattle.tcl_parser.specs.declared.script.Part.TheVariants.{Script};
-ghost use Rattle.tcl_prepared.specs.Views.{seen_word};
-ghost use Rattle.tcl_words_at_hand.specs.Hands.{AllEndIn, EndsIn, IsSumIn};
+ghost use Rattle.std.specs.String.{string_bytes};
+ghost use Rattle.tcl_prepared.specs.Views.{seen_part, seen_word};
+ghost use Rattle.tcl_words_at_hand.specs.Hands.{AllEndIn, EndsIn, IsSumIn, PartAdds, PartsStand};
 ghost use Rattle.tcl_words_at_hand.specs.Hands.{StandsFor, one_of, texts_of};
 
 use std::alloc::Global;
@@ -15,6 +16,7 @@ use tcl_calls::scripts::{hand_place, script_of};
 use tcl_frames::frames::Frames;
 use tcl_prepared::prepared::{Bracket, Prepared, PreparedCommand, PreparedPart, PreparedWord};
 use tcl_run::steps::{frames_seen, known_short};
+use tcl_text::text::Text;
 use tcl_tree::builtin::Builtin;
 use tcl_tree::command::Command;
 use tcl_tree::tree::{Place, Tree};
@@ -46,25 +48,66 @@ pub fn plain_builtin(command: &Command) -> Option<Builtin>
     }
 }
 
-/// What a word stands for over these frames, where it stands for itself or for a variable of the
-/// current one.
-fn value_at_hand(frames: &Frames, word: &PreparedWord) -> Option<Value>
+/// Whether a part is a text or a variable.
+fn is_plain_part(part: &PreparedPart) -> bool {
+    matches!(part, PreparedPart::Literal(_) | PreparedPart::Variable(_))
+}
+
+/// Adds what a part stands for to a text, where it is a text or a variable of the current frame.
+fn add_part(frames: &Frames, alloc: Global, part: &PreparedPart, text: &mut String) -> Option<()>
+    ensures { IfSome result (λ _. PartAdds frames.now.frames (seen_part part.now)
+        (string_bytes text.old) (string_bytes text.new)) }
+{
+    match part {
+        PreparedPart::Literal(more) => text.push_str(more.as_str()).ok(),
+        PreparedPart::Variable(name) => frames.scalar_near(name)?.write_to(alloc, text).ok(),
+        _ => None,
+    }
+}
+
+/// What parts stand for over these frames, one behind the other, where each of them is a text or a
+/// variable of the current one.
+fn parts_at_hand(frames: &Frames, alloc: Global, parts: &[PreparedPart]) -> Option<Value>
+    ensures { IfSome result (λ value. PartsStand frames.now.frames (map seen_part parts.now)
+        value) }
+{
+    if !parts.iter().all(is_plain_part) {
+        return None;
+    }
+    let mut text = String::new(alloc);
+    'parts: for part in parts {
+        add_part(frames, alloc, part, &mut text)?;
+    }
+    Value::from_text(Text::from_string(alloc, text).ok()?).ok()
+}
+
+/// What a word stands for over these frames, where its parts are texts and variables of the current
+/// one.
+fn value_at_hand(frames: &Frames, alloc: Global, word: &PreparedWord) -> Option<Value>
     ensures { IfSome result (λ value. StandsFor frames.now.frames (seen_word word.now) value) }
 {
     let value = match word {
-        PreparedWord::Literal(value) => value,
-        PreparedWord::Lone(PreparedPart::Variable(name)) => frames.scalar_near(name)?,
+        PreparedWord::Literal(value) => value.clone().ok()?,
+        PreparedWord::Lone(PreparedPart::Variable(name)) => {
+            frames.scalar_near(name)?.clone().ok()?
+        }
+        PreparedWord::Parts(parts) => parts_at_hand(frames, alloc, parts.as_slice())?,
         _ => return None,
     };
-    Some(known_short(value.clone().ok()?))
+    Some(known_short(value))
 }
 
-/// What a word stands for in the interpreter, where it stands for itself or for a variable of the
+/// What a word stands for in the interpreter, where its parts are texts and variables of the
 /// current frame.
-fn word_at_hand(tree: &Tree, place: Place, word: &PreparedWord) -> Option<Value>
+fn word_at_hand(
+    tree: &Tree,
+    alloc: Global,
+    place: Place,
+    word: &PreparedWord,
+) -> Option<Value>
     ensures { IfSome result (λ value. EndsIn tree.now place (seen_word word.now) false value) }
 {
-    value_at_hand(frames_seen(tree, place)?, word)
+    value_at_hand(frames_seen(tree, place)?, alloc, word)
 }
 
 /// The result of a script that is one `expr` of one word, where that is an expression of numbers
@@ -131,7 +174,7 @@ fn end_at_hand(
         let sum = sum_at_hand(tree, alloc, place, bracket.script())?;
         return Some((sum, true));
     }
-    Some((word_at_hand(tree, place, word)?, false))
+    Some((word_at_hand(tree, alloc, place, word)?, false))
 }
 
 /// The values of up to four words.
