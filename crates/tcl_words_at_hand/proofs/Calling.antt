@@ -1,5 +1,5 @@
 -- What calls come to whose words are at hand.
-use Rattle.std.proofs.Common.{◌≡◌, ◌⊎◌, inl, inr, ℕ, ◌≤◌, Bool, true, false, List, [], ◌∷◌, ◌++◌, length, Some, None, refl, sym, ◌∙◌, ap, subst, append-nil, append_assoc, length-append, arith}
+use Rattle.std.proofs.Common.{◌≡◌, inl, inr, ℕ, ◌≤◌, Bool, true, false, List, [], ◌∷◌, ◌++◌, length, Some, None, refl, sym, ◌∙◌, ap, subst, append-nil, append_assoc, length-append, arith}
 use Rattle.std.proofs.lemmas.Bool.Decides.{nat_tests}
 use Rattle.tcl_core.specs.Paths.{Path}
 use Rattle.tcl_core.specs.Endings.{ok}
@@ -14,7 +14,7 @@ use Rattle.tcl_parser.specs.Reading.{read_script}
 use Rattle.tcl_parser.specs.Words.{WordRead}
 use Rattle.tcl_parser.specs.declared.script.Part.{Part}
 use Rattle.tcl_parser.specs.declared.script.Part.TheVariants.{Literal, Variable, Element, EndElement, Script}
-use Rattle.tcl_prepared.specs.Views.{literal_parts, literal_word}
+use Rattle.tcl_prepared.specs.Views.{literal_word}
 use Rattle.tcl_run.specs.Ends.{Stays}
 use Rattle.tcl_run.specs.Runs.{Proceeds, Ways}
 use Rattle.tcl_run.proofs.Proceeding.{at_prog, at_reply, completed}
@@ -47,26 +47,22 @@ none_sums style n (w ∷ ws) (x ∷ ts) (inr h) = let clash : false ≡ true = h
 module _ {S : Type 0} {ways : Ways S} (style : Integers) where
   -- ## Words that stand for texts
 
+  part_goes : {T : Tree Own} {o : S} {p : Path} {n : Node Own} {r : Ending} (x : Part) (ps : List Part) (before text : List ℕ) → T p ≡ Some n → PartStands n.own.chain.frames x text → fits (before ++ text) ≡ true →
+      Proceeds ways (language style) T o p (parts ps [] (before ++ text)) T o r → Proceeds ways (language style) T o p (parts (x ∷ ps) [] before) T o r
+  part_goes (Literal more) ps before text there e short t = literal_goes style more ps [] before (ap (λ (v : List ℕ). fits (before ++ v)) e ∙ short) (at_prog (ap (λ (v : List ℕ). parts ps [] (before ++ v)) e) t)
+  part_goes (Variable name) ps before text there e short t = variable_goes style name text ps [] before there e short t
+  part_goes (Element name) ps before text there e short t = elim e [ ]
+  part_goes EndElement ps before text there e short t = elim e [ ]
+  part_goes (Script inner) ps before text there e short t = elim e [ ]
+
   parts_go : {T : Tree Own} {o : S} {p : Path} {n : Node Own} (ps : List Part) (before text : List ℕ) → T p ≡ Some n → PartsStand n.own.chain.frames ps text → fits (before ++ text) ≡ true →
       Proceeds ways (language style) T o p (parts ps [] before) T o (Some (Completed (ok (before ++ text))))
   parts_go [] before text there h short = at_reply (ap (λ (t : List ℕ). Completed (ok (before ++ t))) h ∙ ap (λ (t : List ℕ). Completed (ok t)) (append-nil before)) completed
-  parts_go {T} {o} {p} {n} (x ∷ ps) before text there h short = by x h.3
-    where
-      whole : fits ((before ++ h.0) ++ h.1) ≡ true
-      whole = ap fits (append_assoc before h.0 h.1 ∙ ap (λ (t : List ℕ). before ++ t) (sym h.2)) ∙ short
-
-      first : fits (before ++ h.0) ≡ true
-      first = shorter_fits (before ++ h.0) h.1 whole
-
-      rest : Proceeds ways (language style) T o p (parts ps [] (before ++ h.0)) T o (Some (Completed (ok (before ++ text))))
-      rest = at_reply (ap (λ (t : List ℕ). Completed (ok t)) (ap (λ (t : List ℕ). before ++ t) h.2 ∙ sym (append_assoc before h.0 h.1))) (parts_go ps (before ++ h.0) h.1 there h.4 whole)
-
-      by : (x : Part) → PartStands n.own.chain.frames x h.0 → Proceeds ways (language style) T o p (parts (x ∷ ps) [] before) T o (Some (Completed (ok (before ++ text))))
-      by (Literal more) e = literal_goes style more ps [] before (ap (λ (t : List ℕ). fits (before ++ t)) e ∙ first) (at_prog (ap (λ (t : List ℕ). parts ps [] (before ++ t)) e) rest)
-      by (Variable name) e = variable_goes style name h.0 ps [] before there e first rest
-      by (Element name) e = elim e [ ]
-      by EndElement e = elim e [ ]
-      by (Script inner) e = elim e [ ]
+  parts_go (x ∷ ps) before text there h short =
+      let whole : fits ((before ++ h.0) ++ h.1) ≡ true = ap fits (append_assoc before h.0 h.1 ∙ ap (λ (t : List ℕ). before ++ t) (sym h.2)) ∙ short in
+      let all : before ++ text ≡ (before ++ h.0) ++ h.1 = ap (λ (t : List ℕ). before ++ t) h.2 ∙ sym (append_assoc before h.0 h.1) in
+      part_goes x ps before h.0 there h.3 (shorter_fits (before ++ h.0) h.1 whole)
+      (at_reply (ap (λ (t : List ℕ). Completed (ok t)) all) (parts_go ps (before ++ h.0) h.1 there h.4 whole))
 
   stands_goes : {T V : Tree Own} {o z : S} {p : Path} {n : Node Own} {r : Ending} (word : WordRead) (rest : List WordRead) (before : List (List ℕ)) (text : List ℕ) → T p ≡ Some n → StandsFor n.own.chain.frames word text →
       Proceeds ways (language style) T o p (words rest (before ++ text ∷ [])) V z r → Proceeds ways (language style) T o p (words (word ∷ rest) before) V z r

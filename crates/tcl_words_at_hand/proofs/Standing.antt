@@ -1,5 +1,5 @@
 -- Parts of words that stand for texts.
-use Rattle.std.proofs.Common.{◌≡◌, ℕ, List, [], ◌∷◌, ◌++◌, refl, sym, ◌∙◌, ap, append-nil, append_assoc}
+use Rattle.std.proofs.Common.{ℕ, List, [], ◌∷◌, ◌++◌, refl, sym, ◌∙◌, ap, append-nil, append_assoc}
 use Rattle.tcl_frames.specs.Places.{Levels}
 use Rattle.tcl_parser.specs.declared.script.Part.{Part}
 use Rattle.tcl_prepared.specs.Views.{literal_parts}

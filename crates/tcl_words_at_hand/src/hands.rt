@@ -99,12 +99,7 @@ fn value_at_hand(frames: &Frames, alloc: Global, word: &PreparedWord) -> Option<
 
 /// What a word stands for in the interpreter, where its parts are texts and variables of the
 /// current frame.
-fn word_at_hand(
-    tree: &Tree,
-    alloc: Global,
-    place: Place,
-    word: &PreparedWord,
-) -> Option<Value>
+fn word_at_hand(tree: &Tree, alloc: Global, place: Place, word: &PreparedWord) -> Option<Value>
     ensures { IfSome result (λ value. EndsIn tree.now place (seen_word word.now) false value) }
 {
     value_at_hand(frames_seen(tree, place)?, alloc, word)
