@@ -3,10 +3,12 @@
 //!
 //! Every answer that a row wants was worked out by hand from the rules of the language.
 //!
-//! In `scripts.rows` and `tcl9.rows` a call is a script, and its answer how a run of it ends in a
-//! new tree of interpreters (`ending.rt` says how that is written); every beginning of each script
-//! is run too. In the other files a call is the words of a list, put to the tree, the host and what
-//! else the group has (`world.rt`). A call that changes these alone answers `-`.
+//! In `scripts.rows`, `tcl9.rows` and `commands.rows` a call is a script, and its answer how a run
+//! of it ends in a new tree of interpreters (`ending.rt` says how that is written). `scripts.rows`
+//! are run with the integers of Tcl 8 and `tcl9.rows` with those of Tcl 9, and so is every beginning
+//! of each script. `commands.rows` show commands one by one, and are run in both styles. In the
+//! other files a call is the words of a list, put to the tree, the host and what else the group has
+//! (`world.rt`). A call that changes these alone answers `-`.
 //!
 //! Evaluating (`evaluating.rt`):
 //! - `tree SCRIPT`: begins a new tree, in which the script is run first, and how that ends; at
@@ -76,6 +78,14 @@ fn run_scripts(rt: &HostRuntime, name: &str, integers: Integers) -> io::Result<(
     Ok(())
 }
 
+/// The rows of scripts that end alike in both styles of integers.
+fn run_commands(rt: &HostRuntime) -> io::Result<()> {
+    'styles: for integers in [Integers::Tcl8, Integers::Tcl9] {
+        run(rt, "commands", &mut Scripts { integers })?;
+    }
+    Ok(())
+}
+
 /// The rows that are put to trees. Those of want of memory come first, so that few allocations come
 /// before them.
 fn run_calls(rt: &HostRuntime, world: &mut Trees) -> io::Result<()> {
@@ -90,5 +100,6 @@ fn main(rt: HostRuntime) -> io::Result<()> {
     let mut world = Trees::new(rt.alloc())?;
     run_calls(&rt, &mut world)?;
     run_scripts(&rt, "scripts", Integers::Tcl8)?;
-    run_scripts(&rt, "tcl9", Integers::Tcl9)
+    run_scripts(&rt, "tcl9", Integers::Tcl9)?;
+    run_commands(&rt)
 }

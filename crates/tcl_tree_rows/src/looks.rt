@@ -7,7 +7,7 @@ use tcl_tree::command::{Command, Commands};
 use tcl_tree::tree::Tree;
 
 /// What a name stands for: a built-in command by its own name, and else what it is.
-pub(crate) fn show_command(alloc: Global, command: Option<&Command>) -> Result<Answer, AllocError> {
+fn show_command(alloc: Global, command: Option<&Command>) -> Result<Answer, AllocError> {
     match command {
         Some(Command::Builtin(builtin)) => given(alloc, builtin.name()),
         Some(Command::Procedure(_)) => given(alloc, "procedure"),

@@ -1,11 +1,8 @@
-//! Rows of variables, completions, hosts, trees of interpreters, and calls and commands in one
-//! interpreter.
+//! Rows of variables, completions, hosts and trees of interpreters.
 #![tactic(auto)]
 
 mod answers;
-mod calls;
 mod chains;
-mod commands;
 mod completions;
 mod hosts;
 mod looks;
@@ -16,9 +13,7 @@ mod trees;
 mod variables;
 mod words;
 
-use crate::calls::Calls;
 use crate::chains::Chains;
-use crate::commands::Commands;
 use crate::completions::Completions;
 use crate::hosts::Hosts;
 use crate::maps::Maps;
@@ -36,12 +31,10 @@ fn run_variables(rt: &HostRuntime) -> io::Result<()> {
     Ok(())
 }
 
-/// The rows of hosts, trees, calls and commands.
+/// The rows of hosts and trees.
 fn run_interpreters(rt: &HostRuntime) -> io::Result<()> {
     run(rt, "hosts", &mut Hosts::new(rt.alloc())?)?;
     run(rt, "trees", &mut Trees::new(rt.alloc())?)?;
-    run(rt, "calls", &mut Calls)?;
-    run(rt, "commands", &mut Commands)?;
     Ok(())
 }
 

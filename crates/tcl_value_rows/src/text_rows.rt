@@ -1,15 +1,14 @@
-//! Rows of texts, numbers, words, strings, commands of strings, and expressions.
+//! Rows of texts, numbers, words, strings and expressions.
 //!
 //! A call is the words of a list: a verb, which is most often the name of a function, and what it
 //! is given. It is put in both styles of integers, and answers what both say, or what each says
-//! where they differ. Behind `8` or `9` it is put in that style alone. `bytes CALL` answers how
-//! many bytes the answer has. `keep COUNT OPEN INSIDE CLOSE` keeps a text for the calls that follow
-//! in the group: OPEN so many times, INSIDE, and CLOSE as often. There the word `@` is that text.
+//! where they differ. Behind `8` or `9` it is put in that style alone. `keep COUNT OPEN INSIDE
+//! CLOSE` keeps a text for the calls that follow in the group: OPEN so many times, INSIDE, and CLOSE
+//! as often. There the word `@` is that text.
 //!
 //! A text is answered as it is, an error behind `error:`, and a list with each element in `<` and
 //! `>`.
 mod answers;
-mod commands;
 mod evaluation;
 mod expressions;
 mod numbers;
@@ -35,7 +34,6 @@ enum Layer {
     Numbers,
     Words,
     Strings,
-    Commands,
     Expressions,
 }
 
@@ -47,7 +45,6 @@ impl Layer {
             Layer::Numbers => "numbers",
             Layer::Words => "words",
             Layer::Strings => "strings",
-            Layer::Commands => "commands",
             Layer::Expressions => "expressions",
         }
     }
@@ -65,7 +62,6 @@ impl Layer {
             Layer::Numbers => numbers::answer(alloc, style, verb, words),
             Layer::Words => words::answer(alloc, style, verb, words),
             Layer::Strings => strings::answer(alloc, verb, words),
-            Layer::Commands => commands::answer(alloc, style, verb, words),
             Layer::Expressions => expressions::answer(alloc, style, verb, words),
         }
     }
@@ -161,10 +157,6 @@ impl Caller {
     fn answer_words(&mut self, alloc: Global, words: &[Text]) -> Result<String, AllocError> {
         match words {
             [verb, count, parts @ ..] if verb.as_str() == "keep" => self.keep(alloc, count, parts),
-            [verb, call @ ..] if verb.as_str() == "bytes" => {
-                let bytes = in_its_styles(alloc, self.layer, call)?.len();
-                format!(in alloc; "{bytes}")
-            }
             call => in_its_styles(alloc, self.layer, call),
         }
     }
@@ -196,12 +188,11 @@ fn run_layer(rt: &HostRuntime, layer: Layer) -> io::Result<()> {
 }
 
 /// The files of rows, each by whose functions its calls name.
-const LAYERS: [Layer; 6] = [
+const LAYERS: [Layer; 5] = [
     Layer::Texts,
     Layer::Numbers,
     Layer::Words,
     Layer::Strings,
-    Layer::Commands,
     Layer::Expressions,
 ];
 

@@ -1,4 +1,4 @@
-//! Rows of values, and of the commands of lists and dictionaries.
+//! Rows of values, and of the commands that change what stands inside them.
 //!
 //! A call is a list: the name of a method, a function or a command, and the words behind it. A
 //! command is written as a script writes it, and read in the older style of integers where it
@@ -32,15 +32,12 @@ use row_runner::run;
 use std::io;
 
 /// The files of rows.
-const FILES: [&str; 9] = [
+const FILES: [&str; 6] = [
     "values",
     "changes",
     "inside",
     "limits",
     "nested",
-    "lists",
-    "dicts",
-    "sorting",
     "variables",
 ];
 

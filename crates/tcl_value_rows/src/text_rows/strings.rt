@@ -1,5 +1,5 @@
-//! The functions of strings. A verb that ends in `_nocase` is that of a call without the case of
-//! letters.
+//! The functions of strings, and how specifiers of a format are read. A verb that ends in `_nocase`
+//! is that of a call without the case of letters.
 use crate::text_rows::answers::{answer as show, no_call, whether};
 use std::alloc::{AllocError, Global};
 use std::cmp::Ordering;
@@ -11,6 +11,7 @@ use tcl_characters::order::{compare, equal};
 use tcl_characters::parts::{before, between, character_count, from};
 use tcl_characters::places::{first_place, last_place};
 use tcl_characters::trimming::{WHITE, trim_left, trim_right};
+use tcl_format::specifier::read_specifier;
 use tcl_text::limit::MOST_BYTES;
 use tcl_text::text::Text;
 use tcl_words::limits::count_answer;
@@ -74,6 +75,12 @@ fn repeated(alloc: Global, text: &str, count: usize) -> Result<String, AllocErro
     repeat(alloc, text, count)
 }
 
+/// A specifier, and what follows it.
+fn specifier(alloc: Global, text: &str) -> Result<String, AllocError> {
+    let (read, rest) = read_specifier(text);
+    format!(in alloc; "{read:?} <{rest}>")
+}
+
 /// What a verb gives of a text.
 fn of_text(alloc: Global, verb: &str, text: &str) -> Result<String, AllocError> {
     match verb {
@@ -83,6 +90,7 @@ fn of_text(alloc: Global, verb: &str, text: &str) -> Result<String, AllocError> 
         "to_upper" => to_upper(alloc, text),
         "trim_left" => String::from_str(alloc, trim_left(text, WHITE)),
         "trim_right" => String::from_str(alloc, trim_right(text, WHITE)),
+        "specifier" => specifier(alloc, text),
         _ => no_call(alloc),
     }
 }
