@@ -5,10 +5,10 @@
 //!
 //! In `scripts.rows`, `tcl9.rows` and `commands.rows` a call is a script, and its answer how a run
 //! of it ends in a new tree of interpreters (`ending.rt` says how that is written). `scripts.rows`
-//! are run with the integers of Tcl 8 and `tcl9.rows` with those of Tcl 9, and so is every beginning
-//! of each script. `commands.rows` show commands one by one, and are run in both styles. In the
-//! other files a call is the words of a list, put to the tree, the host and what else the group has
-//! (`world.rt`). A call that changes these alone answers `-`.
+//! are run with the integers of Tcl 8 and `tcl9.rows` with those of Tcl 9, and so is every
+//! beginning of each script. `commands.rows` show commands one by one, and are run in both styles.
+//! In the other files a call is the words of a list, put to the tree, the host and what else the
+//! group has (`world.rt`). A call that changes these alone answers `-`.
 //!
 //! Evaluating (`evaluating.rt`):
 //! - `tree SCRIPT`: begins a new tree, in which the script is run first, and how that ends; at

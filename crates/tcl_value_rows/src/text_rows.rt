@@ -3,8 +3,8 @@
 //! A call is the words of a list: a verb, which is most often the name of a function, and what it
 //! is given. It is put in both styles of integers, and answers what both say, or what each says
 //! where they differ. Behind `8` or `9` it is put in that style alone. `keep COUNT OPEN INSIDE
-//! CLOSE` keeps a text for the calls that follow in the group: OPEN so many times, INSIDE, and CLOSE
-//! as often. There the word `@` is that text.
+//! CLOSE` keeps a text for the calls that follow in the group: OPEN so many times, INSIDE, and
+//! CLOSE as often. There the word `@` is that text.
 //!
 //! A text is answered as it is, an error behind `error:`, and a list with each element in `<` and
 //! `>`.
