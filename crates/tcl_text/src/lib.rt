@@ -4,7 +4,6 @@
 
 pub mod backslash;
 pub mod boolean;
-pub mod characters;
 pub mod index;
 pub mod integer;
 pub mod limit;
