@@ -4,6 +4,7 @@
 
 pub mod backslash;
 pub mod boolean;
+mod characters;
 pub mod index;
 pub mod integer;
 pub mod limit;
