@@ -16,6 +16,7 @@ use tcl_calls::scripts::{hand_place, script_of};
 use tcl_frames::frames::Frames;
 use tcl_prepared::prepared::{Bracket, Prepared, PreparedCommand, PreparedPart, PreparedWord};
 use tcl_run::steps::{frames_seen, known_short};
+use tcl_text::limit::MOST_BYTES;
 use tcl_text::text::Text;
 use tcl_tree::builtin::Builtin;
 use tcl_tree::command::Command;
@@ -77,6 +78,9 @@ fn parts_at_hand(frames: &Frames, alloc: Global, parts: &[PreparedPart]) -> Opti
     let mut text = String::new(alloc);
     'parts: for part in parts {
         add_part(frames, alloc, part, &mut text)?;
+        if text.len() > MOST_BYTES {
+            return None;
+        }
     }
     Value::from_text(Text::from_string(alloc, text).ok()?).ok()
 }
