@@ -1,10 +1,12 @@
 # The scripts of crates/benches in tclsh, each in an interpreter of its own; times go to
-# standard error. The word full asks for the sizes of docs/PERFORMANCE.md.
+# standard error. A word names the file, scripts or commands (scripts where none does), and the
+# word full asks for the sizes of docs/PERFORMANCE.md.
 set folder [file join [file dirname [info script]] .. .. crates benches data]
-set channel [open [file join $folder scripts.txt]]
+set name [expr {"commands" in $argv ? "commands" : "scripts"}]
+set channel [open [file join $folder $name.txt]]
 while {[gets $channel line] >= 0} {
     regexp {^(.*?) \| (\d+) \| (\d+) \| (.*)$} $line all name small full script
-    set count [expr {[lindex $argv 0] eq "full" ? $full : $small}]
+    set count [expr {"full" in $argv ? $full : $small}]
     interp create fresh
     set start [clock microseconds]
     set text [fresh eval "set count $count; $script"]

@@ -6,12 +6,10 @@
 
 mod expressions;
 mod frames;
-mod lists;
 mod measuring;
 mod replay;
 mod running;
 mod scripts;
-mod strings;
 mod tree;
 mod values;
 
@@ -24,21 +22,19 @@ enum Part {
     Expressions,
     Tree,
     Values,
-    Strings,
     Frames,
-    Lists,
+    Commands,
     Scripts,
     Replay,
 }
 
 /// All of them, in the order in which their times are taken.
-const PARTS: [Part; 8] = [
+const PARTS: [Part; 7] = [
     Part::Expressions,
     Part::Tree,
     Part::Values,
-    Part::Strings,
     Part::Frames,
-    Part::Lists,
+    Part::Commands,
     Part::Scripts,
     Part::Replay,
 ];
@@ -50,9 +46,8 @@ impl Part {
             "expressions" => Some(Part::Expressions),
             "tree" => Some(Part::Tree),
             "values" => Some(Part::Values),
-            "strings" => Some(Part::Strings),
             "frames" => Some(Part::Frames),
-            "lists" => Some(Part::Lists),
+            "commands" => Some(Part::Commands),
             "scripts" => Some(Part::Scripts),
             "replay" => Some(Part::Replay),
             _ => None,
@@ -65,10 +60,9 @@ impl Part {
             Part::Expressions => expressions::measure(rt),
             Part::Tree => tree::measure(rt),
             Part::Values => values::measure(rt),
-            Part::Strings => strings::measure(rt),
             Part::Frames => frames::measure(rt),
-            Part::Lists => lists::measure(rt),
-            Part::Scripts => scripts::measure(rt, size),
+            Part::Commands => scripts::measure(rt, "commands.txt", size),
+            Part::Scripts => scripts::measure(rt, "scripts.txt", size),
             Part::Replay => replay::measure(rt, size),
         }
     }

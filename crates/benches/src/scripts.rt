@@ -1,4 +1,4 @@
-//! The times of the scripts of `data/scripts.txt`. Each line has a name, how often the script does
+//! The times of the scripts of a file of `data/`. Each line has a name, how often the script does
 //! its work (in a small run and in a full one), and the script, in which `$count` is that number.
 use crate::measuring::took;
 use crate::running::{Size, result_of, run};
@@ -61,9 +61,9 @@ fn measure_script(rt: &HostRuntime, bench: &Bench<'_>, size: Size) -> io::Result
     println!(rt; "{name}: {text}")
 }
 
-/// Measures each script.
-pub(crate) fn measure(rt: &HostRuntime, size: Size) -> io::Result<()> {
-    let file = fs::read_to_string(rt, "scripts.txt")?;
+/// Measures each script of a file.
+pub(crate) fn measure(rt: &HostRuntime, file: &str, size: Size) -> io::Result<()> {
+    let file = fs::read_to_string(rt, file)?;
     'lines: for line in file.as_str().lines() {
         if let Some(bench) = Bench::of_line(line) {
             measure_script(rt, &bench, size)?;

@@ -2,3 +2,4 @@
 #![tactic(auto)]
 
 pub mod running;
+pub mod waiting;

@@ -5,6 +5,7 @@ mod Choosing
 mod Gathering
 mod Conditions
 mod Dispatching
+pub mod Ends
 mod Entered
 mod Levelling
 mod Looping

@@ -1,6 +1,7 @@
 pub mod Arrays
 pub mod Branching
 pub mod Changes
+pub mod Complete
 pub mod Control
 pub mod Data
 pub mod Definitions

@@ -19,7 +19,7 @@ use Rattle.tcl_core.specs.Trees.{Event, Node, What}
 use Rattle.tcl_core.specs.Trees.What.{Back, Charged, Done, Dropped, In, Out, Refused, Unfound}
 use Rattle.tcl_core.proofs.PathLaws.{not_both, rise_back}
 use Rattle.tcl_core.specs.Views.{steps_of}
-use Rattle.tcl_evaluation.specs.Waiting.{EndsEntry, ExitOf, MissesEntry}
+use Rattle.tcl_eval.specs.Waiting.{EndsEntry, ExitOf, MissesEntry}
 use Rattle.tcl_flow.specs.Stopping as stopping
 use Rattle.tcl_flow.specs.View.{completion_of}
 use Rattle.tcl_language.specs.Table.{serve}

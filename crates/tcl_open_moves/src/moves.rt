@@ -6,7 +6,7 @@ ghost use Rattle.std.specs.Prelude.{[], IfNone, IfOk, IfSome, IsErrOf, is_some};
 ghost use Rattle.tcl_core.specs.Execution.{event};
 ghost use Rattle.tcl_core.specs.Trees as core;
 ghost use Rattle.tcl_core.specs.Trees.What.{In};
-ghost use Rattle.tcl_evaluation.specs.Waiting.{ExitOf};
+ghost use Rattle.tcl_eval.specs.Waiting.{ExitOf};
 ghost use Rattle.tcl_open_moves.specs.OpenMoves.{ComesOf, GivesUp, GivesUpIn, GivesUpOn};
 ghost use Rattle.tcl_open_moves.specs.OpenMoves.{IsDenied, IsGivenUp, KeepsCounts, Serves};
 ghost use Rattle.tcl_open_moves.specs.OpenMoves.{by_budget, grants, halt_at, halt_of, hands};
@@ -24,7 +24,7 @@ ghost use Rattle.tcl_tree.specs.TreeOf.{Names, marks_of, tree_of};
 
 use std::alloc::{AllocError, Global};
 use tcl_eval::running::{self, Refused};
-use tcl_evaluation::waiting::{enter, miss_entry};
+use tcl_eval::waiting::{enter, miss_entry};
 use tcl_run::entry::Entry;
 use tcl_run::interruption::{Cause, Interruption};
 use tcl_run::outside::{Happening, Outside, Turn};

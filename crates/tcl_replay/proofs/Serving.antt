@@ -11,7 +11,7 @@ use Rattle.tcl_core.specs.Programs.{Wait}
 use Rattle.tcl_core.specs.Execution.{Crossings, event, hears}
 use Rattle.tcl_core.specs.Trees.{Event, Move, Tree, What}
 use Rattle.tcl_core.specs.Trees.What.{Charged, Refused, Dropped, Out, In, Done, Back, Unfound}
-use Rattle.tcl_evaluation.specs.Waiting.{EndsEntry, MissesEntry}
+use Rattle.tcl_eval.specs.Waiting.{EndsEntry, MissesEntry}
 use Rattle.tcl_flow.specs.View.{completion_of}
 use Rattle.tcl_flow.specs.Stopping as stopping
 use Rattle.tcl_language_laws.specs.Language.{language}

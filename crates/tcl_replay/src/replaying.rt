@@ -20,7 +20,7 @@ ghost use Rattle.tcl_recorder.specs.Crossings.{events_of};
 
 use crate::saving::Saved;
 use std::alloc::{AllocError, Global};
-use tcl_evaluation::waiting::{enter, miss_entry};
+use tcl_eval::waiting::{enter, miss_entry};
 use tcl_player::moves::Move;
 use tcl_player::player::{Outcome, Player};
 use tcl_recorder::crossing::Crossing;

@@ -12,7 +12,7 @@ use Rattle.tcl_run.proofs.Endings.{ended_so}
 use Rattle.tcl_run.proofs.Proceeding.{at_prog, at_start, comes, given_up_after, stopped}
 use Rattle.tcl_tree.specs.TreeOf.{tree_of, marks_of}
 use Rattle.tcl_eval.proofs.Starting.{at_any_err, counts_stay, is_given_up, keeps_counts, own_limit, some_way, told_all}
-use Rattle.tcl_words_at_hand.proofs.Steps.{EndsAt}
+use Rattle.tcl_evaluation.proofs.Ends.{EndsAt}
 use Rattle.tcl_eval.proofs.running.run.Goals as goal
 
 pub returns-in_err-new-clause-given_up : goal.returns-in_err-new-clause-given_up

@@ -1,8 +1,8 @@
 //! Calls on a tree of interpreters by path.
-use crate::answers::{Answer, done, given, no_call, refused};
-use crate::looks::{of_name, of_path};
-use crate::places::{alias_up, at_place, nothing};
-use crate::words::{number_of, place_of, words_of};
+use crate::tree_rows::answers::{Answer, done, given, no_call, refused};
+use crate::tree_rows::looks::{of_name, of_path};
+use crate::tree_rows::places::{alias_up, at_place, nothing};
+use crate::tree_rows::words::{number_of, place_of, words_of};
 use std::alloc::{AllocError, Global};
 use tcl_text::text::Text;
 use tcl_tree::alias::Alias;

@@ -2,8 +2,8 @@
 ghost use Rattle.tcl_core.specs.Paths.{Path};
 ghost use Rattle.tcl_tree.specs.TreeOf.{Names};
 
-use crate::answers::{Answer, done, given, list, no_call, truth};
-use crate::words::{number_of, place_of, words_of};
+use crate::tree_rows::answers::{Answer, done, given, list, no_call, truth};
+use crate::tree_rows::words::{number_of, place_of, words_of};
 use std::alloc::{AllocError, Global};
 use tcl_text::text::Text;
 use tcl_tree::alias::Alias;

@@ -3,11 +3,11 @@
 //! A call is a list; one that changes the chain answers `-`, and one that is refused must leave it
 //! as it was. `new` puts a new chain in its place. There is a second chain, which is kept: `keep`
 //! makes it a copy of the first, `swap` exchanges the two, and `same` tells whether they are equal.
-use crate::answers::{
+use crate::tree_rows::answers::{
     Answer, Told, count, done, given, joined, list, no_call, refused, texts_of, truth, value,
     written,
 };
-use crate::words::{pairs_of, place_of, value_of, values_of, words_of};
+use crate::tree_rows::words::{pairs_of, place_of, value_of, values_of, words_of};
 use row_runner::World;
 use std::alloc::{AllocError, Global};
 use std::mem::swap;

@@ -3,9 +3,9 @@
 //! A call is a list; one that changes the frame answers `-`. In `value`, `assign` and their kin the
 //! name behind the base is the one that a refusal tells. There is a second frame, which `keep`
 //! makes a copy of the first; `same` tells whether they are equal.
-use crate::answers::{Answer, count, done, given, no_call, truth, written};
-use crate::chains::show_value;
-use crate::words::{value_of, values_of, words_of};
+use crate::tree_rows::answers::{Answer, count, done, given, no_call, truth, written};
+use crate::tree_rows::chains::show_value;
+use crate::tree_rows::words::{value_of, values_of, words_of};
 use row_runner::World;
 use std::alloc::{AllocError, Global};
 use tcl_text::text::Text;

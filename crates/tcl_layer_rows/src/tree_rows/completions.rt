@@ -3,8 +3,8 @@
 //! A call is a list, which is made on one completion; one that changes it answers `-`. A completion
 //! is told as its code, the code and the level of its options and its text, and options as their
 //! code, their level and their errorcode.
-use crate::answers::{Answer, Told, given, no_call, number, refused, value, written};
-use crate::words::{value_of, values_of, words_of};
+use crate::tree_rows::answers::{Answer, Told, given, no_call, number, refused, value, written};
+use crate::tree_rows::words::{value_of, values_of, words_of};
 use row_runner::World;
 use std::alloc::{AllocError, Global};
 use tcl_flow::completion::{

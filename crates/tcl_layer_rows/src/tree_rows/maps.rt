@@ -3,8 +3,8 @@
 //! A call is a list; one that changes the map answers `-`. There is a second map, which is kept:
 //! `keep` makes it a copy of the first, `swap` exchanges the two, and `same` tells whether they are
 //! equal.
-use crate::answers::{Answer, given, no_call, truth, value, written};
-use crate::words::{pairs_of, place_of, value_of, words_of};
+use crate::tree_rows::answers::{Answer, given, no_call, truth, value, written};
+use crate::tree_rows::words::{pairs_of, place_of, value_of, words_of};
 use row_runner::World;
 use std::alloc::{AllocError, Global};
 use std::mem::swap;

@@ -1,7 +1,7 @@
 use Rattle.std.proofs.Common.{[], ◌∷◌, ◌++◌, sym, ◌∙◌}
 use Rattle.tcl_tree.proofs.StayLemmas.{began_holds, began_innermost}
-use Rattle.tcl_tree_rows.proofs.Deleting.{deleted_or_not}
-use Rattle.tcl_tree_rows.proofs.paths.delete_within.Goals as goal
+use Rattle.tcl_layer_rows.proofs.Deleting.{deleted_or_not}
+use Rattle.tcl_layer_rows.proofs.tree_rows.paths.delete_within.Goals as goal
 
 pub is_gone-gone-requires : goal.is_gone-gone-requires
 is_gone-gone-requires c =

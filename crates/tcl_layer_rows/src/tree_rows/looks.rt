@@ -1,6 +1,6 @@
 //! What a tree of interpreters shows by path.
-use crate::answers::{Answer, count, given, list, no_call, number, refused, truth};
-use crate::words::place_of;
+use crate::tree_rows::answers::{Answer, count, given, list, no_call, number, refused, truth};
+use crate::tree_rows::words::place_of;
 use std::alloc::{AllocError, Global};
 use tcl_text::text::Text;
 use tcl_tree::command::{Command, Commands};

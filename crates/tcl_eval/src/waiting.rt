@@ -1,0 +1,3 @@
+//! Entries of evaluations that wait for what their outside says, for those who play moves.
+pub use tcl_evaluation::waiting::enter;
+pub use tcl_evaluation::waiting::miss_entry;
