@@ -1,7 +1,8 @@
 -- A name that is one of the current frame, and stands for a value there.
-use Rattle.std.proofs.Common.{◌≡◌, ℕ, ◌-◌, ◌<◌, true, false, length, slice_get, slice_set, List, Option, Some, None, Ok, refl, sym, ◌∙◌, ap, subst}
-use Rattle.std.specs.Prelude.{IfSome}
+use Rattle.std.proofs.Common.{◌≡◌, ℕ, ◌-◌, ◌<◌, true, false, length, slice_get, slice_set, List, Option, Some, None, Result, Ok, Err, refl, sym, ◌∙◌, ap, subst}
+use Rattle.std.specs.Prelude.{IfSome, IfOk, OnErr, MatchOption, IsSome}
 use Rattle.std.specs.Borrow.{Bor}
+use Rattle.std.specs.declared.alloc.AllocError.{AllocError}
 use Rattle.std.specs.Map.{lookup}
 use Rattle.std.specs.Str.{bytes_eq}
 use Rattle.tcl_variables.specs.Names.{Text, is_simple}
@@ -16,8 +17,9 @@ use Rattle.tcl_frames.specs.Places.{Levels, Spot, current, bound, end_of}
 use Rattle.tcl_frames.specs.Chain.{Aside, Chain, read, written, after_set}
 use Rattle.tcl_frames.specs.Changes.{change_levels}
 use Rattle.tcl_frames.specs.Reached.{start, over, link_of}
-use Rattle.tcl_frames.specs.Sound.{IsSound}
+use Rattle.tcl_frames.specs.Sound.{IsSound, HasRoom}
 use Rattle.tcl_frames.proofs.ChainLemmas.{chain, less, with_ok, sound_positive}
+use Rattle.tcl_frames.proofs.LendLemmas.{lent_sound, kept_sound, kept_is}
 use Rattle.tcl_frames.proofs.ReachLemmas.{follow_here}
 use Rattle.tcl_frames.proofs.SoundLemmas.{bound_at}
 use Rattle.tcl_frames.proofs.StepLemmas.{read_is, written_is, change_is, change_level, below_current}
@@ -72,3 +74,41 @@ read_last fs self x f (Some v) same simple at found =
 
 pub below : (fs : Levels) (as' : List Aside) (self : Chain) → chain fs as' ≡ self → (n : ℕ) → n ≡ current self.frames → IsSound (chain fs as') → n < length fs
 below fs as' self same n is sound = below_current false fs n (is ∙ ap (λ (s : Chain). current s.frames) (sym same)) (sound_positive (chain fs as') sound)
+
+-- ## A name that the current frame doesn't have
+
+module _ (fs : Levels) (n : ℕ) (x t : Text) (f g : Frame) (simple : is_simple x ≡ true) (is : n ≡ current fs) (at : slice_get fs n ≡ Some f) (absent : lookup (bytes_eq x) f.variables ≡ None) (made : g ≡ with_variable f x (Scalar t)) where
+  pub rebound_absent : rebound f x (assigned whole (lookup (bytes_eq x) f.variables) t x) ≡ Ok g
+  rebound_absent = ap (λ o. rebound f x (assigned whole o t x)) absent ∙ ap Ok (sym made)
+
+  pub written_absent : written fs x t ≡ Ok (slice_set fs n g)
+  written_absent =
+      written_is fs x t
+      ∙ change_is (Assign t) fs x (record { is_global = false; base = x; key = None }) n (simple_name x simple) is
+      ∙ ap (λ (p : Spot). change_levels (Assign t) fs p x) (follow_here fs (start n x) (ap link_of (bound_at fs n x f at ∙ absent)))
+      ∙ change_level (Assign t) fs (start n x) f g x at rebound_absent
+
+module _ (fs : Levels) (as' : List Aside) (n : ℕ) (x t : Text) (f g : Frame) (r : Result (Option Text) AllocError) (at : slice_get fs n ≡ Some f) (inserted : IfOk r (λ left. MatchOption left ((lookup (bytes_eq x) f.variables ≡ None) × (g ≡ with_variable f x (Scalar t))) (λ v. IsSome (lookup (bytes_eq x) f.variables) × (v ≡ t) × (g ≡ f)))) where
+  -- where the frame has it, nothing changes
+  pub inserted_near : (self : Chain) → chain fs as' ≡ self → is_simple x ≡ true → n ≡ current self.frames → IfOk r (λ left. MatchOption left (after_set self x t ≡ Ok (chain (slice_set fs n g) as')) (λ v. (v ≡ t) × (chain (slice_set fs n g) as' ≡ self)))
+  inserted_near self same simple is = by r inserted
+    where
+      level_is : n ≡ current fs
+      level_is = is ∙ ap (λ (s : Chain). current s.frames) (sym same)
+
+      by : (q : Result (Option Text) AllocError) → IfOk q (λ left. MatchOption left ((lookup (bytes_eq x) f.variables ≡ None) × (g ≡ with_variable f x (Scalar t))) (λ v. IsSome (lookup (bytes_eq x) f.variables) × (v ≡ t) × (g ≡ f)))
+          → IfOk q (λ left. MatchOption left (after_set self x t ≡ Ok (chain (slice_set fs n g) as')) (λ v. (v ≡ t) × (chain (slice_set fs n g) as' ≡ self)))
+      by (Err e) h = tt
+      by (Ok None) h =
+          subst (λ (s : Chain). after_set s x t ≡ Ok (chain (slice_set fs n g) as')) same
+          (with_ok fs (slice_set fs n g) as' (written fs x t) (written_absent fs n x t f g simple level_is at h.0 h.1))
+      by (Ok (Some v)) h = (h.1, kept_is fs as' n f g self same at h.2)
+
+  pub inserted_sound : (m : ℕ) → is_simple x ≡ true → n ≡ current fs → OnErr r (g ≡ f) → IsSound (chain fs as') × HasRoom m as' → IsSound (chain (slice_set fs n g) as') × HasRoom m as'
+  inserted_sound m simple is unchanged sound = by r inserted unchanged
+    where
+      by : (q : Result (Option Text) AllocError) → IfOk q (λ left. MatchOption left ((lookup (bytes_eq x) f.variables ≡ None) × (g ≡ with_variable f x (Scalar t))) (λ v. IsSome (lookup (bytes_eq x) f.variables) × (v ≡ t) × (g ≡ f)))
+          → OnErr q (g ≡ f) → IsSound (chain (slice_set fs n g) as') × HasRoom m as'
+      by (Err e) h k = kept_sound fs as' n f g m at k sound
+      by (Ok None) h k = lent_sound fs as' n f g x x t whole m at (rebound_absent fs n x t f g simple is at h.0 h.1) sound
+      by (Ok (Some v)) h k = kept_sound fs as' n f g m at h.2 sound

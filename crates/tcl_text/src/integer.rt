@@ -2,7 +2,7 @@
 ghost use Rattle.std.specs.Prelude.{◌≡◌, ℕ, ◌+◌, ◌*◌, ◌++◌, ◌≤◌, length, codes, IfOk, OnOk, OnErr};
 ghost use Rattle.std.specs.Prelude.{option_map, ℤ, FitsSigned};
 ghost use Rattle.std.specs.Int.{w64};
-ghost use Rattle.std.specs.Fmt.{signed_decimal};
+ghost use Rattle.std.specs.Fmt.{decimal, signed_decimal};
 ghost use Rattle.std.specs.String.{string_bytes};
 ghost use Rattle.tcl_text.specs.NumberForms.{IntegersByForm};
 ghost use Rattle.tcl_text.specs.Numbers.{trim_start, trim_end, in_base, unsigned, with_sign};
@@ -181,11 +181,25 @@ pub fn integers_by_form()
     ensures { IntegersByForm }
 {}
 
+/// How many digits a number takes in decimal.
+fn digit_count(number: u64) -> usize
+    ensures digits { result ≡ length (decimal number) }
+    ensures few { result ≤ 20 }
+{
+    let mut left = number;
+    let mut count: usize = 1;
+    'digits: while left >= 10 {
+        left /= 10;
+        count += 1;
+    }
+    count
+}
+
 /// How many bytes an integer takes in decimal.
 pub fn int_len(number: i64) -> usize
     ensures { result ≡ length (signed_decimal number) }
 {
-    Buffer::new().format(number).len()
+    digit_count(number.unsigned_abs()) + usize::from(number < 0)
 }
 
 /// What is told of a text that is no integer (111).

@@ -4,7 +4,7 @@
 
 pub mod backslash;
 pub mod boolean;
-pub mod characters;
+mod characters;
 pub mod index;
 pub mod integer;
 pub mod limit;

@@ -256,6 +256,13 @@ impl Value {
         }
     }
 
+    /// That its text is within the limit, for whoever proves something of it. This does nothing.
+    pub fn keeps_limit(&self)
+        ensures { IsWithin self.now }
+    {
+        let _form = &self.form;
+    }
+
     /// How many bytes its text has. This takes no memory.
     pub fn text_len(&self) -> usize
         ensures len { result ≡ length self.now }
@@ -623,6 +630,16 @@ impl Clone for Kept {
             Kept::List(list) => Ok(Kept::List(list.clone()?)),
             Kept::Dict(dict) => Ok(Kept::Dict(dict.clone()?)),
         }
+    }
+}
+
+impl Default for Value {
+    ghost use Rattle.std.specs.Prelude.{◌≡◌, []};
+
+    ghost is_default = { λ x. x ≡ [] };
+
+    fn default() -> Value {
+        Value::empty()
     }
 }
 

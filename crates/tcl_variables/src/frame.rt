@@ -87,7 +87,7 @@ pub enum Change {
 }
 
 impl Frame {
-    ghost use Rattle.std.specs.Prelude.{[]};
+    ghost use Rattle.std.specs.Prelude.{[], IsSome};
     ghost use Rattle.tcl_variables.specs.Variables.Part.{whole, element};
     ghost use Rattle.tcl_variables.specs.Access.{assigned, left_of, elements_of};
     ghost use Rattle.tcl_variables.specs.Arrays.{extended, thinned};
@@ -224,6 +224,32 @@ impl Frame {
         }
         let variable = new_variable(alloc, part, value, name)?;
         insert_told(&mut self.variables, alloc, base, name, variable)?;
+        Ok(None)
+    }
+
+    /// Makes a name that stands for nothing stand for a value, or gives the value back where it
+    /// stands for something. The text of the name is shared where there are few.
+    ///
+    /// # Errors
+    /// Want of memory.
+    pub fn insert_near(
+        &mut self,
+        alloc: Global,
+        name: &VariableName,
+        value: Value,
+    ) -> Result<Option<Value>, AllocError>
+        ensures ok { IfOk result
+            (λ left. MatchOption left ((lookup (bytes_eq name.now) self.old.variables ≡ None) ×
+            (self.new ≡ with_variable self.old name.now (Scalar value)))
+            (λ v. IsSome (lookup (bytes_eq name.now) self.old.variables) × (v ≡ value) ×
+            (self.new ≡ self.old))) }
+        ensures unchanged { OnErr result (self.new ≡ self.old) }
+    {
+        if self.variable_near(name).is_some() {
+            return Ok(Some(value));
+        }
+        self.variables
+            .insert_absent(alloc, name.text(), Variable::Scalar(value))?;
         Ok(None)
     }
 

@@ -1,5 +1,6 @@
 //! Maps from names, in the order of insertion.
-ghost use Rattle.std.specs.Prelude.{◌≡◌, [], Some, IfSome, IfOk, OnOk, OnErr, length, slice_get};
+ghost use Rattle.std.specs.Prelude.{◌≡◌, [], Some, None, IfSome, IfOk, OnOk, OnErr};
+ghost use Rattle.std.specs.Prelude.{length, slice_get};
 ghost use Rattle.std.specs.Borrow.{sem};
 ghost use Rattle.std.specs.Map.{lookup, remove_entry};
 ghost use Rattle.std.specs.Option.{option_map, option_copied, option_copied_mut};
@@ -207,6 +208,22 @@ impl<V: Drop> NameMap<V> {
         self.make_room(alloc)?;
         match &mut self.entries {
             Entries::Few(few) => few.insert(name.clone()?, value),
+            Entries::Many(many) => many.insert_new(alloc, name.as_str(), value),
+        }
+    }
+
+    /// The same for a name that isn't there: few names aren't looked through.
+    ///
+    /// # Errors
+    /// Want of memory, which leaves the map as it was.
+    pub fn insert_absent(&mut self, alloc: Global, name: &Text, value: V) -> Result<(), AllocError>
+        requires { lookup (bytes_eq name.now) self.old ≡ None }
+        ensures inserted { OnOk result (self.new ≡ insert_entry bytes_eq self.old name.now value) }
+        ensures unchanged { OnErr result (self.new ≡ self.old) }
+    {
+        self.make_room(alloc)?;
+        match &mut self.entries {
+            Entries::Few(few) => few.push(name.clone()?, value),
             Entries::Many(many) => many.insert_new(alloc, name.as_str(), value),
         }
     }

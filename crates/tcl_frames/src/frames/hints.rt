@@ -1,12 +1,12 @@
 //! Names that are looked up in less time where they stand where they were found last.
-ghost use Rattle.std.specs.Prelude.{◌≡◌, Ok, IfOk, OnOk, IfErr, OnErr, IfSome};
+ghost use Rattle.std.specs.Prelude.{◌≡◌, Ok, MatchOption, IfOk, OnOk, IfErr, OnErr, IfSome};
 ghost use Rattle.std.specs.Borrow.{sem};
 ghost use Rattle.tcl_variables.specs.Faults.{Refuses};
 ghost use Rattle.tcl_frames.specs.Chain.{read, after_set};
 ghost use Rattle.tcl_frames.specs.LendingChain.{LendsNear};
 
 use crate::frames::Frames;
-use std::alloc::Global;
+use std::alloc::{AllocError, Global};
 use tcl_value::value::Value;
 use tcl_variables::fault::FrameError;
 use tcl_variables::variable_name::VariableName;
@@ -57,6 +57,27 @@ impl Frames {
         }
     }
 
+    /// Sets a name that the current frame doesn't have, in that frame, or gives the value back where
+    /// it has the name, or where the name may mean something else.
+    fn insert_near(
+        &mut self,
+        alloc: Global,
+        name: &VariableName,
+        value: Value,
+    ) -> Result<Option<Value>, AllocError>
+        ensures ok { IfOk result
+            (λ left. MatchOption left (after_set self.old name.now value ≡ Ok self.new)
+            (λ v. (v ≡ value) × (self.new ≡ self.old))) }
+        ensures unchanged { OnErr result (self.new ≡ self.old) }
+    {
+        if !name.is_simple() {
+            return Ok(Some(value));
+        }
+        let level = self.level();
+        let frame = &mut self.frames[level];
+        frame.insert_near(alloc, name, value)
+    }
+
     /// Sets a name, as [`Frames::set`] does.
     ///
     /// # Errors
@@ -75,6 +96,9 @@ impl Frames {
             *held = value;
             return Ok(());
         }
-        self.set(alloc, name.text(), value)
+        match self.insert_near(alloc, name, value)? {
+            None => Ok(()),
+            Some(value) => self.set(alloc, name.text(), value),
+        }
     }
 }
