@@ -100,7 +100,7 @@ pub(crate) fn call_at_hand<O: Outside>(
     let PreparedWord::Literal(name) = first else {
         return None;
     };
-    let _within = name.text_len();
+    name.keeps_limit();
     let command = command_named(tree, alloc, place, name)?;
     let hand = words_at_hand(tree, alloc, place, rest)?;
     let args = hand.values.as_slice();

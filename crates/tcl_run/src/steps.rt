@@ -74,7 +74,7 @@ pub fn known_short(value: Value) -> Value
     ensures same { result ≡ value }
     ensures short { fits value ≡ true }
 {
-    let _within = value.text_len();
+    value.keeps_limit();
     value
 }
 

@@ -352,7 +352,7 @@ at_hand::call_at_hand-returns-clause-runs g t c =
     (EndsFrom (ways g.O.Outside.goes g.O.Outside.loses) c.args.tree.now c.args.outside.now c.args.place (λ style. words (map seen_word c.args.words.now) []) c.call_on_hand.new.tree c.call_on_hand.new.outside)
     (λ e h q style at.
     let n = stands (tree_of c.args.tree.now q) (tree_there c.args.tree.now q _ at.names) in
-    let literal = Calls.literal_stands n.0.own.chain.frames (seen_word c.first-item.result) c.in-Literal.name (ap seen_word c.in-Literal.is) (Steps.within_fits c.in-Literal.name c.text_len-within.ensures.within) in
+    let literal = Calls.literal_stands n.0.own.chain.frames (seen_word c.first-item.result) c.in-Literal.name (ap seen_word c.in-Literal.is) (Steps.within_fits c.in-Literal.name c.keeps_limit.ensures) in
     let ends : AllEnd style n.0 (map seen_word rest) c.in_ok-hand.hand.sums values = subst (λ (s : Integers). AllEnd s n.0 (map seen_word rest) c.in_ok-hand.hand.sums values) at.style_is (c.in_ok-hand.ensures q n.0 at.names n.1) in
     at_prog (ap (λ (ws : List PreparedWord). words (map seen_word ws) []) (split_first c.args.words.now c.first-item.result c.in-len1-up.len_at_least c.first-item.is))
     (h q style n.0 at n.1 (c.in_ok-command.ensures q n.0 at.names n.1) (seen_word c.first-item.result ∷ map seen_word rest)
