@@ -1,5 +1,5 @@
 -- How ends are told to a caller that may be gone.
-use Rattle.std.proofs.Common.{◌≡◌, ℕ, Option, Some, refl, sym, ◌∙◌, ap, subst}
+use Rattle.std.proofs.Common.{◌≡◌, ℕ, Option, Some, refl, sym, ap, subst}
 use Rattle.tcl_core.specs.Endings as core
 use Rattle.tcl_core.specs.Endings.{Completion, Reply}
 use Rattle.tcl_core.specs.Endings.Kind.{Gone}

@@ -22,8 +22,8 @@ pub fn hand_place(from: &Value, to: &Value) {
     }
 }
 
-/// Whether a character is none of the white space that `concat` trims. That of letters outside of
-/// ASCII isn't.
+/// Whether a character comes behind the space, and so is none of the white space that `concat`
+/// trims, which is ASCII alone.
 fn is_past_white(letter: char) -> bool
     ensures { IsTrue result → is_among (chars white) letter ≡ false }
 {

@@ -3,7 +3,7 @@ ghost use Rattle.tcl_language.specs.Control as control;
 ghost use Rattle.tcl_run.specs.Ends.{OnCompletion};
 ghost use Rattle.tcl_run.specs.Runs.{IsHere, IsRunning, Keeps, ProceedsIn, ways};
 
-use crate::evaluation::eval_value;
+use crate::evaluation::eval_read;
 use std::alloc::Global;
 use tcl_calls::collecting::{collected, collects};
 use tcl_calls::walks::{LMAP, is_over, loop_words, read_walks, set_walks};
@@ -40,6 +40,7 @@ pub fn lmap<O: Outside>(
         return Err(wrong_args(alloc, LMAP));
     };
     let walks = read_walks(alloc, LMAP, words)?;
+    let script = tree.script_of(alloc, body)?;
     let mut made = List::new(alloc)?;
     'turns: for turns in 0..usize::MAX {
         if is_over(walks.as_slice(), turns) {
@@ -47,7 +48,7 @@ pub fn lmap<O: Outside>(
         }
         charge(tree, outside, place)?;
         set_walks(tree, alloc, place, walks.as_slice(), turns)?;
-        let ended = eval_value(tree, alloc, outside, place, body);
+        let ended = eval_read(tree, alloc, outside, place, body, &script);
         if !collects(alloc, &mut made, ended)? {
             return collected(alloc, made);
         }

@@ -1,5 +1,5 @@
 //! The evaluation of scripts, command by command and word by word.
-ghost use Rattle.std.specs.Prelude.{◌++◌, ◌∷◌, [], length, map, Some, OnOk, IfErr};
+ghost use Rattle.std.specs.Prelude.{◌≡◌, ◌++◌, ◌∷◌, [], length, map, Some, OnOk, IfErr};
 ghost use Rattle.std.specs.Prelude.{MatchResult};
 ghost use Rattle.std.specs.String.{string_bytes};
 ghost use Rattle.tcl_core.specs.Paths.{Path};
@@ -11,6 +11,7 @@ ghost use Rattle.tcl_run.specs.Runs.{IsHeld, IsHere, IsRunning, Keeps, ProceedsA
 ghost use Rattle.tcl_run.specs.Runs.{ways};
 ghost use Rattle.tcl_tree.specs.TreeOf.{tree_of, Names};
 ghost use Rattle.tcl_calls.specs.Words.{opens, IsShort};
+ghost use Rattle.tcl_parser.specs.Reading.{read_script};
 ghost use Rattle.tcl_prepared.specs.Views.{seen_command, seen_part, seen_word};
 ghost use Rattle.tcl_evaluation.specs.View.{PartGoes, PartBreaks};
 ghost use Rattle.tcl_words_at_hand.specs.Scripts.{read_so};
@@ -106,6 +107,31 @@ pub fn eval_value<O: Outside>(
 {
     let script = tree.script_of(alloc, value)?;
     eval_script(tree, alloc, outside, place, &script)
+}
+
+/// Evaluates the script of a text, as it was read before, one level deeper.
+///
+/// # Errors
+/// Those of a script.
+#[cycle(eval)]
+pub fn eval_read<O: Outside>(
+    tree: &mut Tree,
+    alloc: Global,
+    outside: &mut O,
+    place: Place,
+    text: &Value,
+    script: &Prepared,
+) -> Result<Value, Interruption>
+    requires named { (p : Path) × Names tree.old place p }
+    requires read { script.now ≡ read_script text.now }
+    ensures runs { ProceedsAt (ways O.goes O.loses) tree.old outside.old place
+        (λ style. scripts.script text.now) tree.new outside.new result }
+    ensures held { (p : Path) → Names tree.old place p → IsHeld tree.old tree.new p }
+    ensures here { OnCompletion result (IsHere tree.old tree.new place) }
+    ensures keeps { Keeps O.entries_left tree.old tree.new outside.old outside.new }
+{
+    let _text = text;
+    eval_script(tree, alloc, outside, place, script)
 }
 
 /// Evaluates a script in brackets that was read with the script around it, one level deeper. A sum

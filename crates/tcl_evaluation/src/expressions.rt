@@ -1,13 +1,14 @@
 //! Expressions, and the commands with conditions.
 ghost use Rattle.std.specs.Option.{option_copied};
-ghost use Rattle.std.specs.Prelude.{◌∷◌, [], MatchResult};
+ghost use Rattle.std.specs.Prelude.{◌≡◌, ◌∷◌, [], MatchResult};
 ghost use Rattle.tcl_language.specs.Expressions as expressions;
+ghost use Rattle.tcl_parser.specs.Reading.{read_script};
 ghost use Rattle.tcl_run.specs.Ends.{Breaks, OnCompletion};
 ghost use Rattle.tcl_run.specs.Runs.{IsHere, IsRunning, Keeps, ProceedsIn, ways};
 ghost use Rattle.tcl_evaluation.specs.Conditional.{Computes, TestGoes, TestBreaks, TurnGoes};
 ghost use Rattle.tcl_evaluation.specs.Conditional.{TurnBreaks};
 
-use crate::evaluation::eval_value;
+use crate::evaluation::{eval_read, eval_value};
 use crate::operands::eval_operand;
 use std::alloc::Global;
 use tcl_calls::branches::{Branches, branches_of, one_branch};
@@ -16,6 +17,7 @@ use tcl_calls::scripts::{hand_place, script_of};
 use tcl_calls::turns::{goes_on, turns_on};
 use tcl_expr::tree::ExprTree;
 use tcl_expression_evaluation::evaluation::{Evaluation, Progress};
+use tcl_prepared::prepared::Prepared;
 use tcl_run::failure::wrong_args;
 use tcl_run::interruption::Interruption;
 use tcl_run::outside::Outside;
@@ -234,7 +236,7 @@ fn if_many<O: Outside>(
 }
 
 /// A turn of a loop with a condition: whether the loop goes on. Where the condition holds, the turn
-/// is counted and the body runs.
+/// is counted and the body runs, whose script was read before.
 #[cycle(eval)]
 #[inline(never)]
 fn turn<O: Outside>(
@@ -245,8 +247,10 @@ fn turn<O: Outside>(
     evaluation: &mut Evaluation,
     test: &ExprTree,
     body: &Value,
+    script: &Prepared,
 ) -> Result<bool, Interruption>
-    requires { IsRunning tree.old place }
+    requires running { IsRunning tree.old place }
+    requires read { script.now ≡ read_script body.now }
     ensures runs { MatchResult result
         (λ on. TurnGoes (ways O.goes O.loses) tree.old outside.old place test.now body.now tree.new
         outside.new on)
@@ -259,12 +263,12 @@ fn turn<O: Outside>(
         return Ok(false);
     }
     charge(tree, outside, place)?;
-    goes_on(eval_value(tree, alloc, outside, place, body))
+    goes_on(eval_read(tree, alloc, outside, place, body, script))
 }
 
-/// `while test command`: a counted turn as long as the condition holds, which is read once.
-/// (while(n)) A loop has fewer turns than its count of steps can be, and so never comes to the end
-/// of the numbers.
+/// `while test command`: a counted turn as long as the condition holds. The condition and the body
+/// are read once. (while(n)) A loop has fewer turns than its count of steps can be, and so never
+/// comes to the end of the numbers.
 ///
 /// # Errors
 /// 241; those of the condition, as of `expr`; the stop 308; those of the body but for `break` and
@@ -288,17 +292,20 @@ pub fn while_loop<O: Outside>(
         return Err(wrong_args(alloc, "while test command"));
     };
     let test = read_expression(tree, alloc, tree.integers(), test)?;
+    let script = tree.script_of(alloc, body)?;
     let mut state = Evaluation::new(alloc);
     'turns: for _turn in 0..u64::MAX {
-        if !turn(tree, alloc, outside, place, &mut state, &test, body)? {
+        if !turn(
+            tree, alloc, outside, place, &mut state, &test, body, &script,
+        )? {
             return Ok(Value::empty());
         }
     }
     Err(Interruption::Memory)
 }
 
-/// `for start test next command`: a counted turn as long as the condition holds, which is read
-/// once, behind the first script. (for(n))
+/// `for start test next command`: a counted turn as long as the condition holds. The condition and
+/// the scripts of a turn are read once, behind the first script. (for(n))
 ///
 /// # Errors
 /// 241; those of the first script; those of the condition, as of `expr`; the stop 308; those of the
@@ -324,12 +331,16 @@ pub fn for_loop<O: Outside>(
     };
     on_ok(eval_value(tree, alloc, outside, place, start))?;
     let test = read_expression(tree, alloc, tree.integers(), test)?;
+    let script = tree.script_of(alloc, body)?;
+    let between = tree.script_of(alloc, next)?;
     let mut state = Evaluation::new(alloc);
     'turns: for _turn in 0..u64::MAX {
-        if !turn(tree, alloc, outside, place, &mut state, &test, body)? {
+        if !turn(
+            tree, alloc, outside, place, &mut state, &test, body, &script,
+        )? {
             return Ok(Value::empty());
         }
-        if !turns_on(eval_value(tree, alloc, outside, place, next))? {
+        if !turns_on(eval_read(tree, alloc, outside, place, next, &between))? {
             return Ok(Value::empty());
         }
     }

@@ -8,7 +8,7 @@ ghost use Rattle.tcl_run.specs.Ends.{OnCompletion};
 ghost use Rattle.tcl_run.specs.Runs.{IsHere, IsRunning, Keeps, ProceedsIn, ways};
 ghost use Rattle.tcl_text.specs.declared.integer.Integers.{Integers};
 
-use crate::evaluation::eval_value;
+use crate::evaluation::{eval_read, eval_value};
 use std::alloc::Global;
 use tcl_builtins::dicts;
 use tcl_calls::levels::{bring_back, script_level, set_aside};
@@ -45,13 +45,14 @@ fn walk_through<O: Outside>(
     ensures here { OnCompletion result (IsHere tree.old tree.new place) }
     ensures keeps { Keeps O.entries_left tree.old tree.new outside.old outside.new }
 {
+    let script = tree.script_of(alloc, body)?;
     'turns: for turns in 0..usize::MAX {
         if is_over(walks, turns) {
             return Ok(Value::empty());
         }
         charge(tree, outside, place)?;
         set_walks(tree, alloc, place, walks, turns)?;
-        if !goes_on(eval_value(tree, alloc, outside, place, body))? {
+        if !goes_on(eval_read(tree, alloc, outside, place, body, &script))? {
             return Ok(Value::empty());
         }
     }

@@ -186,6 +186,7 @@ pub enum Values {
 }
 
 impl Values {
+    /// Them, from the first word on.
     pub fn as_slice(&self) -> &[Value]
         ensures { result.now ≡ texts_of self.now }
     {

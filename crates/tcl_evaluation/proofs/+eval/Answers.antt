@@ -949,6 +949,13 @@ evaluation::eval_value-returns-clause-runs g t c =
     (EndsAt (ways g.O.Outside.goes g.O.Outside.loses) c.args.tree.now c.args.outside.now c.args.place (λ style. script c.args.value.now) c.eval_script.new.tree c.eval_script.new.outside)
     (λ e h q style at. at_prog (ap read_so (sym (c.deref.ensures ∙ c.in_ok-script.ensures))) (h q style at)) c.eval_script.ensures.runs
 
+pub evaluation::eval_read-returns-clause-runs : goal.evaluation::eval_read-returns-clause-runs
+evaluation::eval_read-returns-clause-runs g t c =
+    IfRan-more c.eval_script.result
+    (EndsAt (ways g.O.Outside.goes g.O.Outside.loses) c.args.tree.now c.args.outside.now c.args.place (λ style. read_so c.args.script.now) c.eval_script.new.tree c.eval_script.new.outside)
+    (EndsAt (ways g.O.Outside.goes g.O.Outside.loses) c.args.tree.now c.args.outside.now c.args.place (λ style. script c.args.text.now) c.eval_script.new.tree c.eval_script.new.outside)
+    (λ e h q style at. at_prog (ap read_so (sym c.requires.read)) (h q style at)) c.eval_script.ensures.runs
+
 pub evaluation::eval_part-returns-in_err-value-in-Variable-clause-runs : goal.evaluation::eval_part-returns-in_err-value-in-Variable-clause-runs
 evaluation::eval_part-returns-in_err-value-in-Variable-clause-runs g t c =
     let p = err_from_is_err_and c.from_residual.result c.from_residual.ensures.1 in
@@ -1800,10 +1807,10 @@ expressions::turn-returns-in_err-charge-clause-runs g t c =
 pub expressions::turn-returns-clause-runs : goal.expressions::turn-returns-clause-runs
 expressions::turn-returns-clause-runs g t c =
     let holds = subst (TestGoes (ways g.O.Outside.goes g.O.Outside.loses) c.args.tree.now c.args.outside.now c.args.place c.args.test.now c.condition.new.tree c.condition.new.outside) c.if-not-branch.false c.in_ok-condition.ensures.runs in
-    Conditions.turned after_body c.eval_value.result c.goes_on.result
-    (EndsAt (ways g.O.Outside.goes g.O.Outside.loses) c.charge.new.tree c.charge.new.outside c.args.place (λ style. script c.args.body.now) c.eval_value.new.tree c.eval_value.new.outside) _ _ c.eval_value.ensures.runs c.goes_on.ensures
+    Conditions.turned after_body c.eval_read.result c.goes_on.result
+    (EndsAt (ways g.O.Outside.goes g.O.Outside.loses) c.charge.new.tree c.charge.new.outside c.args.place (λ style. script c.args.body.now) c.eval_read.new.tree c.eval_read.new.outside) _ _ c.eval_read.ensures.runs c.goes_on.ensures
     (λ d on h goes.
-    Conditions.turn_ends (ways g.O.Outside.goes g.O.Outside.loses) c.args.tree.now c.eval_value.new.tree c.args.outside.now c.eval_value.new.outside c.args.place c.args.test.now c.args.body.now d on
+    Conditions.turn_ends (ways g.O.Outside.goes g.O.Outside.loses) c.args.tree.now c.eval_read.new.tree c.args.outside.now c.eval_read.new.outside c.args.place c.args.test.now c.args.body.now d on
     (λ q style at text is k V y r run.
     let here = still_at _ _ c.args.place q style c.in_ok-condition.ensures.here at in
     let after = still_at _ _ c.args.place q style (level_here _ _ c.args.place c.charge.ensures.level) here in
@@ -1835,6 +1842,11 @@ expressions::while_loop-returns-in_err-test-clause-runs g t c =
     Looping.while_begins style c.args.args.now c.in-len2.len_at_least c.in-len2.len_below
     (Conditions.test_misread style (get_or c.args.args.now 0 []) _ e (Conditions.misread_as c.integers.result style c.test-item.result (get_or c.args.args.now 0 []) e (c.integers.ensures ∙ at.style_is) test h)))
     (λ q style at. stopped)
+
+pub expressions::while_loop-returns-in_err-script-clause-runs : goal.expressions::while_loop-returns-in_err-script-clause-runs
+expressions::while_loop-returns-in_err-script-clause-runs g t c =
+    let p = err_from_is_err_and c.from_residual-in_err-script.result c.from_residual-in_err-script.ensures.1 in
+    memory_err c.from_residual-in_err-script.result p.0 _ _ p.1 p.2 (λ q style at. stopped)
 
 pub expressions::while_loop-turns-init : goal.expressions::while_loop-turns-init
 expressions::while_loop-turns-init g t c = record {
@@ -1925,6 +1937,28 @@ expressions::for_loop-returns-in_err-test-clause-runs g t c =
     (λ q style at. Looping.for_begins style c.args.args.now x.0 c.in_ok-on_ok.field-0 c.in-len4.len_at_least c.in-len4.len_below x.2 x.3
     (at_prog (ap script (sym start)) (x.1 q style (record { names = at.names; style_is = at.style_is }))) stopped)
 
+pub expressions::for_loop-returns-in_err-script-clause-runs : goal.expressions::for_loop-returns-in_err-script-clause-runs
+expressions::for_loop-returns-in_err-script-clause-runs g t c =
+    let p = err_from_is_err_and c.from_residual-in_err-script.result c.from_residual-in_err-script.ensures.1 in
+    let more = c.in-len4.len_at_least in
+    let start = Looping.item_at c.args.args.now 0 c.start-item.result (omega (arith, more)) c.start-item.is in
+    let x = ran_text c.eval_value.result c.in_ok-on_ok.field-0 (EndsAt (ways g.O.Outside.goes g.O.Outside.loses) c.args.tree.now c.args.outside.now c.args.place (λ style. script c.start-item.result) c.eval_value.new.tree c.eval_value.new.outside)
+    c.in_ok-on_ok.ensures.text c.eval_value.ensures.runs in
+    memory_err c.from_residual-in_err-script.result p.0 _ _ p.1 p.2
+    (λ q style at. Looping.for_begins style c.args.args.now x.0 c.in_ok-on_ok.field-0 c.in-len4.len_at_least c.in-len4.len_below x.2 x.3
+    (at_prog (ap script (sym start)) (x.1 q style (record { names = at.names; style_is = at.style_is }))) stopped)
+
+pub expressions::for_loop-returns-in_err-between-clause-runs : goal.expressions::for_loop-returns-in_err-between-clause-runs
+expressions::for_loop-returns-in_err-between-clause-runs g t c =
+    let p = err_from_is_err_and c.from_residual-in_err-between.result c.from_residual-in_err-between.ensures.1 in
+    let more = c.in-len4.len_at_least in
+    let start = Looping.item_at c.args.args.now 0 c.start-item.result (omega (arith, more)) c.start-item.is in
+    let x = ran_text c.eval_value.result c.in_ok-on_ok.field-0 (EndsAt (ways g.O.Outside.goes g.O.Outside.loses) c.args.tree.now c.args.outside.now c.args.place (λ style. script c.start-item.result) c.eval_value.new.tree c.eval_value.new.outside)
+    c.in_ok-on_ok.ensures.text c.eval_value.ensures.runs in
+    memory_err c.from_residual-in_err-between.result p.0 _ _ p.1 p.2
+    (λ q style at. Looping.for_begins style c.args.args.now x.0 c.in_ok-on_ok.field-0 c.in-len4.len_at_least c.in-len4.len_below x.2 x.3
+    (at_prog (ap script (sym start)) (x.1 q style (record { names = at.names; style_is = at.style_is }))) stopped)
+
 pub expressions::for_loop-turns-init : goal.expressions::for_loop-turns-init
 expressions::for_loop-turns-init g t c =
     let more = c.in-len4.len_at_least in
@@ -1981,8 +2015,8 @@ expressions::for_loop-returns-in_err-turns_on-clause-runs g t c =
     let body = Looping.item_at c.args.args.now 3 c.body-item.result (omega (arith, more)) c.body-item.is in
     let on = subst (TurnGoes (ways g.O.Outside.goes g.O.Outside.loses) c.turns.tree c.turns.outside c.args.place c.deref.result.now c.body-item.result c.turn.new.tree c.turn.new.outside) c.if-not-branch.false c.in_ok-turn.ensures.runs in
     ran_err c.from_residual-in_err-turns_on.result c.in_err-turns_on.field-0.0 p.0 _ _ _ p.1 p.2
-    (Conditions.turned_err after_next c.eval_value-in-turns.result c.in_err-turns_on.field-0.0
-    (EndsAt (ways g.O.Outside.goes g.O.Outside.loses) c.turn.new.tree c.turn.new.outside c.args.place (λ style. script c.next-item.result) c.eval_value-in-turns.new.tree c.eval_value-in-turns.new.outside) c.in_err-turns_on.ensures c.eval_value-in-turns.ensures.runs)
+    (Conditions.turned_err after_next c.eval_read.result c.in_err-turns_on.field-0.0
+    (EndsAt (ways g.O.Outside.goes g.O.Outside.loses) c.turn.new.tree c.turn.new.outside c.args.place (λ style. script c.next-item.result) c.eval_read.new.tree c.eval_read.new.outside) c.in_err-turns_on.ensures c.eval_read.ensures.runs)
     (λ e h q style at.
     let first = still_at c.args.tree.now c.eval_value.new.tree c.args.place q style (here_text c.eval_value.result c.in_ok-on_ok.field-0 c.args.tree.now c.eval_value.new.tree c.args.place c.in_ok-on_ok.ensures.text c.eval_value.ensures.here) at in
     let here = still_at c.args.tree.now c.turns.tree c.args.place q style c.turns.invariant.here at in
@@ -1994,7 +2028,7 @@ expressions::for_loop-returns-in_err-turns_on-clause-runs g t c =
     (Conditions.leaves_after style after_next (get_or c.args.args.now 2 []) _ e h.1 (at_prog (ap script (sym next)) (h.0 q style (record { names = after.names; style_is = after.style_is })))))))
 
 pub expressions::for_loop-returns-in_err-turns_on-clause-keeps : goal.expressions::for_loop-returns-in_err-turns_on-clause-keeps
-expressions::for_loop-returns-in_err-turns_on-clause-keeps g t c = keeps-trans (keeps-trans c.turns.invariant.keeps c.turn.ensures.keeps) c.eval_value-in-turns.ensures.keeps
+expressions::for_loop-returns-in_err-turns_on-clause-keeps g t c = keeps-trans (keeps-trans c.turns.invariant.keeps c.turn.ensures.keeps) c.eval_read.ensures.keeps
 
 pub expressions::for_loop-returns-then-not-branch-2-clause-runs : goal.expressions::for_loop-returns-then-not-branch-2-clause-runs
 expressions::for_loop-returns-then-not-branch-2-clause-runs g t c = λ q style at.
@@ -2003,8 +2037,8 @@ expressions::for_loop-returns-then-not-branch-2-clause-runs g t c = λ q style a
     let next = Looping.item_at c.args.args.now 2 c.next-item.result (omega (arith, more)) c.next-item.is in
     let body = Looping.item_at c.args.args.now 3 c.body-item.result (omega (arith, more)) c.body-item.is in
     let on = subst (TurnGoes (ways g.O.Outside.goes g.O.Outside.loses) c.turns.tree c.turns.outside c.args.place c.deref.result.now c.body-item.result c.turn.new.tree c.turn.new.outside) c.if-not-branch.false c.in_ok-turn.ensures.runs in
-    let x = Conditions.turned_ok after_next c.eval_value-in-turns.result c.in_ok-turns_on.field-0 false
-    (EndsAt (ways g.O.Outside.goes g.O.Outside.loses) c.turn.new.tree c.turn.new.outside c.args.place (λ style. script c.next-item.result) c.eval_value-in-turns.new.tree c.eval_value-in-turns.new.outside) c.in_ok-turns_on.ensures c.if-not-branch-2.true c.eval_value-in-turns.ensures.runs in
+    let x = Conditions.turned_ok after_next c.eval_read.result c.in_ok-turns_on.field-0 false
+    (EndsAt (ways g.O.Outside.goes g.O.Outside.loses) c.turn.new.tree c.turn.new.outside c.args.place (λ style. script c.next-item.result) c.eval_read.new.tree c.eval_read.new.outside) c.in_ok-turns_on.ensures c.if-not-branch-2.true c.eval_read.ensures.runs in
     let first = still_at c.args.tree.now c.eval_value.new.tree c.args.place q style (here_text c.eval_value.result c.in_ok-on_ok.field-0 c.args.tree.now c.eval_value.new.tree c.args.place c.in_ok-on_ok.ensures.text c.eval_value.ensures.here) at in
     let here = still_at c.args.tree.now c.turns.tree c.args.place q style c.turns.invariant.here at in
     let after = still_at c.turns.tree c.turn.new.tree c.args.place q style c.in_ok-turn.ensures.here here in
@@ -2016,7 +2050,7 @@ expressions::for_loop-returns-then-not-branch-2-clause-runs g t c = λ q style a
     (at_prog (x.2 (go (For (get_or c.args.args.now 1 []) (get_or c.args.args.now 2 []) (get_or c.args.args.now 3 [])) done)) (at_reply (ap (λ (y : List ℕ). Completed (ok y)) c.empty-then-not-branch-2.ensures) completed)))))
 
 pub expressions::for_loop-returns-then-not-branch-2-clause-keeps : goal.expressions::for_loop-returns-then-not-branch-2-clause-keeps
-expressions::for_loop-returns-then-not-branch-2-clause-keeps g t c = keeps-trans (keeps-trans c.turns.invariant.keeps c.turn.ensures.keeps) c.eval_value-in-turns.ensures.keeps
+expressions::for_loop-returns-then-not-branch-2-clause-keeps g t c = keeps-trans (keeps-trans c.turns.invariant.keeps c.turn.ensures.keeps) c.eval_read.ensures.keeps
 
 pub expressions::for_loop-turns-preserved : goal.expressions::for_loop-turns-preserved
 expressions::for_loop-turns-preserved g t c =
@@ -2025,8 +2059,8 @@ expressions::for_loop-turns-preserved g t c =
     let next = Looping.item_at c.args.args.now 2 c.next-item.result (omega (arith, more)) c.next-item.is in
     let body = Looping.item_at c.args.args.now 3 c.body-item.result (omega (arith, more)) c.body-item.is in
     let on = subst (TurnGoes (ways g.O.Outside.goes g.O.Outside.loses) c.turns.tree c.turns.outside c.args.place c.deref.result.now c.body-item.result c.turn.new.tree c.turn.new.outside) c.if-not-branch.false c.in_ok-turn.ensures.runs in
-    let x = Conditions.turned_ok after_next c.eval_value-in-turns.result c.in_ok-turns_on.field-0 true
-    (EndsAt (ways g.O.Outside.goes g.O.Outside.loses) c.turn.new.tree c.turn.new.outside c.args.place (λ style. script c.next-item.result) c.eval_value-in-turns.new.tree c.eval_value-in-turns.new.outside) c.in_ok-turns_on.ensures c.if-not-branch-2.false c.eval_value-in-turns.ensures.runs in
+    let x = Conditions.turned_ok after_next c.eval_read.result c.in_ok-turns_on.field-0 true
+    (EndsAt (ways g.O.Outside.goes g.O.Outside.loses) c.turn.new.tree c.turn.new.outside c.args.place (λ style. script c.next-item.result) c.eval_read.new.tree c.eval_read.new.outside) c.in_ok-turns_on.ensures c.if-not-branch-2.false c.eval_read.ensures.runs in
     record {
       leads = λ q style at V z r run.
           let first = still_at c.args.tree.now c.eval_value.new.tree c.args.place q style (here_text c.eval_value.result c.in_ok-on_ok.field-0 c.args.tree.now c.eval_value.new.tree c.args.place c.in_ok-on_ok.ensures.text c.eval_value.ensures.here) at in
@@ -2039,8 +2073,8 @@ expressions::for_loop-turns-preserved g t c =
           (goes_on {i = Script (get_or c.args.args.now 2 [])} (at_prog (ap script (sym next)) (x.1 q style (record { names = after.names; style_is = after.style_is })))
           (at_prog (x.2 (go (For (get_or c.args.args.now 1 []) (get_or c.args.args.now 2 []) (get_or c.args.args.now 3 [])) done))
           (goes_done {i = For (get_or c.args.args.now 1 []) (get_or c.args.args.now 2 []) (get_or c.args.args.now 3 [])} run)))));
-      here = here-trans c.args.tree.now c.turn.new.tree c.eval_value-in-turns.new.tree c.args.place (here-trans c.args.tree.now c.turns.tree c.turn.new.tree c.args.place c.turns.invariant.here c.in_ok-turn.ensures.here) (here_in c.eval_value-in-turns.result c.in_ok-turns_on.ensures.0 (IsHere c.turn.new.tree c.eval_value-in-turns.new.tree c.args.place) c.in_ok-turns_on.ensures.1 c.eval_value-in-turns.ensures.here);
-      keeps = keeps-trans (keeps-trans c.turns.invariant.keeps c.turn.ensures.keeps) c.eval_value-in-turns.ensures.keeps;
+      here = here-trans c.args.tree.now c.turn.new.tree c.eval_read.new.tree c.args.place (here-trans c.args.tree.now c.turns.tree c.turn.new.tree c.args.place c.turns.invariant.here c.in_ok-turn.ensures.here) (here_in c.eval_read.result c.in_ok-turns_on.ensures.0 (IsHere c.turn.new.tree c.eval_read.new.tree c.args.place) c.in_ok-turns_on.ensures.1 c.eval_read.ensures.here);
+      keeps = keeps-trans (keeps-trans c.turns.invariant.keeps c.turn.ensures.keeps) c.eval_read.ensures.keeps;
     }
 
 -- more turns than there are numbers
@@ -2048,6 +2082,14 @@ pub expressions::for_loop-returns-clause-runs : goal.expressions::for_loop-retur
 expressions::for_loop-returns-clause-runs g t c = λ q style at. c.turns.invariant.leads q style at _ _ _ stopped
 
 -- # Loops over lists, and scripts at another level
+
+pub loops::walk_through-returns-in_err-script-clause-runs : goal.loops::walk_through-returns-in_err-script-clause-runs
+loops::walk_through-returns-in_err-script-clause-runs g t c =
+    let p = err_from_is_err_and c.from_residual.result c.from_residual.ensures.1 in
+    memory_err c.from_residual.result p.0 _ _ p.1 p.2 (λ q style at. stopped)
+
+pub loops::walk_through-returns-in_err-script-clause-here : goal.loops::walk_through-returns-in_err-script-clause-here
+loops::walk_through-returns-in_err-script-clause-here g t c = unmoved c.from_residual.result c.args.tree.now c.args.place
 
 pub loops::walk_through-turns-init : goal.loops::walk_through-turns-init
 loops::walk_through-turns-init g t c = record {
@@ -2065,8 +2107,8 @@ loops::walk_through-returns-then-is_over-clause-runs g t c = λ q style at.
 pub loops::walk_through-returns-in_err-charge-clause-runs : goal.loops::walk_through-returns-in_err-charge-clause-runs
 loops::walk_through-returns-in_err-charge-clause-runs g t c =
     let more = sym c.is_over.ensures ∙ c.if-is_over.false in
-    let p = err_from_is_err_and c.from_residual.result c.from_residual.ensures.1 in
-    says_err c.from_residual.result c.in_err-charge.field-0.0 p.0 _ _ _ p.1 p.2 c.in_err-charge.ensures.refused
+    let p = err_from_is_err_and c.from_residual-in_err-charge.result c.from_residual-in_err-charge.ensures.1 in
+    says_err c.from_residual-in_err-charge.result c.in_err-charge.field-0.0 p.0 _ _ _ p.1 p.2 c.in_err-charge.ensures.refused
     (λ e h q style at. c.turns.invariant.leads q style at _ _ _
     (Walking.turn_stops style (walks_at c.turns.turns c.args.walks.now) (done (ok [])) (body_then c.args.body.now) more (h q (still_at c.args.tree.now c.turns.tree c.args.place q style c.turns.invariant.here at).names)))
 
@@ -2091,8 +2133,8 @@ loops::walk_through-returns-in_err-goes_on-clause-runs g t c =
     let more = sym c.is_over.ensures ∙ c.if-is_over.false in
     let p = err_from_is_err_and c.from_residual-in_err-goes_on.result c.from_residual-in_err-goes_on.ensures.1 in
     ran_err c.from_residual-in_err-goes_on.result c.in_err-goes_on.field-0.0 p.0 _ _ _ p.1 p.2
-    (Conditions.turned_err after_body c.eval_value.result c.in_err-goes_on.field-0.0
-    (EndsAt (ways g.O.Outside.goes g.O.Outside.loses) c.set_walks.new.tree c.charge.new.outside c.args.place (λ style. script c.args.body.now) c.eval_value.new.tree c.eval_value.new.outside) c.in_err-goes_on.ensures c.eval_value.ensures.runs)
+    (Conditions.turned_err after_body c.eval_read.result c.in_err-goes_on.field-0.0
+    (EndsAt (ways g.O.Outside.goes g.O.Outside.loses) c.set_walks.new.tree c.charge.new.outside c.args.place (λ style. script c.args.body.now) c.eval_read.new.tree c.eval_read.new.outside) c.in_err-goes_on.ensures c.eval_read.ensures.runs)
     (λ e h q style at.
     let here = still_at c.args.tree.now c.turns.tree c.args.place q style c.turns.invariant.here at in
     let after = still_at _ _ c.args.place q style (level_here _ _ c.args.place c.charge.ensures.level) here in
@@ -2106,8 +2148,8 @@ loops::walk_through-returns-in_err-goes_on-clause-runs g t c =
 pub loops::walk_through-returns-then-not-branch-clause-runs : goal.loops::walk_through-returns-then-not-branch-clause-runs
 loops::walk_through-returns-then-not-branch-clause-runs g t c = λ q style at.
     let more = sym c.is_over.ensures ∙ c.if-is_over.false in
-    let x = Conditions.turned_ok after_body c.eval_value.result c.in_ok-goes_on.field-0 false
-    (EndsAt (ways g.O.Outside.goes g.O.Outside.loses) c.set_walks.new.tree c.charge.new.outside c.args.place (λ style. script c.args.body.now) c.eval_value.new.tree c.eval_value.new.outside) c.in_ok-goes_on.ensures c.if-not-branch.true c.eval_value.ensures.runs in
+    let x = Conditions.turned_ok after_body c.eval_read.result c.in_ok-goes_on.field-0 false
+    (EndsAt (ways g.O.Outside.goes g.O.Outside.loses) c.set_walks.new.tree c.charge.new.outside c.args.place (λ style. script c.args.body.now) c.eval_read.new.tree c.eval_read.new.outside) c.in_ok-goes_on.ensures c.if-not-branch.true c.eval_read.ensures.runs in
     let here = still_at c.args.tree.now c.turns.tree c.args.place q style c.turns.invariant.here at in
     let after = still_at _ _ c.args.place q style (level_here _ _ c.args.place c.charge.ensures.level) here in
     let set = still_at _ _ c.args.place q style (level_here _ _ c.args.place c.set_walks.ensures.level) after in
@@ -2121,8 +2163,8 @@ loops::walk_through-returns-then-not-branch-clause-runs g t c = λ q style at.
 pub loops::walk_through-turns-preserved : goal.loops::walk_through-turns-preserved
 loops::walk_through-turns-preserved g t c =
     let more = sym c.is_over.ensures ∙ c.if-is_over.false in
-    let x = Conditions.turned_ok after_body c.eval_value.result c.in_ok-goes_on.field-0 true
-    (EndsAt (ways g.O.Outside.goes g.O.Outside.loses) c.set_walks.new.tree c.charge.new.outside c.args.place (λ style. script c.args.body.now) c.eval_value.new.tree c.eval_value.new.outside) c.in_ok-goes_on.ensures c.if-not-branch.false c.eval_value.ensures.runs in
+    let x = Conditions.turned_ok after_body c.eval_read.result c.in_ok-goes_on.field-0 true
+    (EndsAt (ways g.O.Outside.goes g.O.Outside.loses) c.set_walks.new.tree c.charge.new.outside c.args.place (λ style. script c.args.body.now) c.eval_read.new.tree c.eval_read.new.outside) c.in_ok-goes_on.ensures c.if-not-branch.false c.eval_read.ensures.runs in
     record {
       leads = λ q style at V z r run.
           let here = still_at c.args.tree.now c.turns.tree c.args.place q style c.turns.invariant.here at in
@@ -2136,8 +2178,8 @@ loops::walk_through-turns-preserved g t c =
           (at_prog (x.2 (go (Foreach (map passed (walks_at c.turns.turns c.args.walks.now)) c.args.body.now) done))
           (goes_done {i = Foreach (map passed (walks_at c.turns.turns c.args.walks.now)) c.args.body.now}
           (at_prog (ap (λ (ws : List Left). foreach_turns ws c.args.body.now) (Walking.walks_next c.turns.turns c.args.walks.now)) run)))));
-      here = here-trans c.args.tree.now c.set_walks.new.tree c.eval_value.new.tree c.args.place (here-trans c.args.tree.now c.charge.new.tree c.set_walks.new.tree c.args.place (here-trans c.args.tree.now c.turns.tree c.charge.new.tree c.args.place c.turns.invariant.here (level_here c.turns.tree c.charge.new.tree c.args.place c.charge.ensures.level)) (level_here c.charge.new.tree c.set_walks.new.tree c.args.place c.set_walks.ensures.level)) (here_in c.eval_value.result c.in_ok-goes_on.ensures.0 (IsHere c.set_walks.new.tree c.eval_value.new.tree c.args.place) c.in_ok-goes_on.ensures.1 c.eval_value.ensures.here);
-      keeps = keeps-trans (keeps-trans (keeps-trans c.turns.invariant.keeps (charged_keeps c.charge.ensures.level c.charge.ensures.left)) (level_keeps _ c.set_walks.ensures.level)) c.eval_value.ensures.keeps;
+      here = here-trans c.args.tree.now c.set_walks.new.tree c.eval_read.new.tree c.args.place (here-trans c.args.tree.now c.charge.new.tree c.set_walks.new.tree c.args.place (here-trans c.args.tree.now c.turns.tree c.charge.new.tree c.args.place c.turns.invariant.here (level_here c.turns.tree c.charge.new.tree c.args.place c.charge.ensures.level)) (level_here c.charge.new.tree c.set_walks.new.tree c.args.place c.set_walks.ensures.level)) (here_in c.eval_read.result c.in_ok-goes_on.ensures.0 (IsHere c.set_walks.new.tree c.eval_read.new.tree c.args.place) c.in_ok-goes_on.ensures.1 c.eval_read.ensures.here);
+      keeps = keeps-trans (keeps-trans (keeps-trans c.turns.invariant.keeps (charged_keeps c.charge.ensures.level c.charge.ensures.left)) (level_keeps _ c.set_walks.ensures.level)) c.eval_read.ensures.keeps;
     }
 
 pub loops::walk_through-returns-clause-runs : goal.loops::walk_through-returns-clause-runs
@@ -2197,6 +2239,11 @@ collecting::lmap-returns-in_err-walks-clause-runs g t c =
     fails_err c.from_residual.result c.in_err-walks.field-0.0 p.0 _ _ _ p.1 p.2 c.in_err-walks.ensures.refused
     (λ e h q style at. Walking.loop_misread style lmap_form (λ walks body. go (Lmap walks body []) done) c.args.args.now c.in-Some.words.now c.in-Some.body.now e c.in-Some.ensures h) (λ q style at. stopped)
 
+pub collecting::lmap-returns-in_err-script-clause-runs : goal.collecting::lmap-returns-in_err-script-clause-runs
+collecting::lmap-returns-in_err-script-clause-runs g t c =
+    let p = err_from_is_err_and c.from_residual-in_err-script.result c.from_residual-in_err-script.ensures.1 in
+    memory_err c.from_residual-in_err-script.result p.0 _ _ p.1 p.2 (λ q style at. stopped)
+
 pub collecting::lmap-returns-in_err-made-clause-runs : goal.collecting::lmap-returns-in_err-made-clause-runs
 collecting::lmap-returns-in_err-made-clause-runs g t c =
     let p = err_from_is_err_and c.from_residual-in_err-made.result c.from_residual-in_err-made.ensures.1 in
@@ -2248,8 +2295,8 @@ collecting::lmap-returns-in_err-collects-clause-runs g t c =
     let more = ap (λ (ws : List Walk). is_over (walks_at c.turns.turns ws)) (sym c.as_slice.ensures.value) ∙ sym c.is_over.ensures ∙ c.if-is_over.false in
     let p = err_from_is_err_and c.from_residual-in_err-collects.result c.from_residual-in_err-collects.ensures.1 in
     ran_err c.from_residual-in_err-collects.result c.in_err-collects.field-0.0 p.0 _ _ _ p.1 p.2
-    (Gathering.collected_err c.eval_value-ended.result c.in_err-collects.field-0.0 c.turns.made c.collects.new.made
-    (EndsAt (ways g.O.Outside.goes g.O.Outside.loses) c.set_walks.new.tree c.charge.new.outside c.args.place (λ style. script c.in-Some.body.now) c.eval_value-ended.new.tree c.eval_value-ended.new.outside) c.in_err-collects.ensures c.eval_value-ended.ensures.runs)
+    (Gathering.collected_err c.eval_read-ended.result c.in_err-collects.field-0.0 c.turns.made c.collects.new.made
+    (EndsAt (ways g.O.Outside.goes g.O.Outside.loses) c.set_walks.new.tree c.charge.new.outside c.args.place (λ style. script c.in-Some.body.now) c.eval_read-ended.new.tree c.eval_read-ended.new.outside) c.in_err-collects.ensures c.eval_read-ended.ensures.runs)
     (λ e h q style at.
     let here = still_at c.args.tree.now c.turns.tree c.args.place q style c.turns.invariant.here at in
     let after = still_at _ _ c.args.place q style (level_here _ _ c.args.place c.charge.ensures.level) here in
@@ -2259,16 +2306,16 @@ collecting::lmap-returns-in_err-collects-clause-runs g t c =
     (Walking.turn_begins style (walks_at c.turns.turns c.in_ok-walks.walks.items) (gives (written_list c.turns.made)) (result_then c.in-Some.body.now c.turns.made) more counts
     (Walking.walks_set (walks_at c.turns.turns c.in_ok-walks.walks.items) (tree_of c.charge.new.tree) (tree_of c.set_walks.new.tree) q
     (λ k V r d. subst (λ (ws : List Walk). Does (sets_walks (walks_at c.turns.turns ws) (λ rest. k)) (tree_of c.charge.new.tree) q V r) c.as_slice-in-turns.ensures.value (c.in_ok-set_walks.ensures.set q after.names k V r d)))
-    (Gathering.turn_ends style c.in-Some.body.now c.turns.made (map passed (walks_at c.turns.turns c.in_ok-walks.walks.items)) e (EndsAt (ways g.O.Outside.goes g.O.Outside.loses) c.set_walks.new.tree c.charge.new.outside c.args.place (λ style. script c.in-Some.body.now) c.eval_value-ended.new.tree c.eval_value-ended.new.outside)
+    (Gathering.turn_ends style c.in-Some.body.now c.turns.made (map passed (walks_at c.turns.turns c.in_ok-walks.walks.items)) e (EndsAt (ways g.O.Outside.goes g.O.Outside.loses) c.set_walks.new.tree c.charge.new.outside c.args.place (λ style. script c.in-Some.body.now) c.eval_read-ended.new.tree c.eval_read-ended.new.outside)
     (λ f d. d q style (record { names = set.names; style_is = set.style_is })) h)))
 
 pub collecting::lmap-returns-then-not-branch-clause-runs : goal.collecting::lmap-returns-then-not-branch-clause-runs
 collecting::lmap-returns-then-not-branch-clause-runs g t c =
     let more = ap (λ (ws : List Walk). is_over (walks_at c.turns.turns ws)) (sym c.as_slice.ensures.value) ∙ sym c.is_over.ensures ∙ c.if-is_over.false in
-    let x = Gathering.collected_ok c.eval_value-ended.result c.in_ok-collects.field-0 false c.turns.made c.collects.new.made
-    (EndsAt (ways g.O.Outside.goes g.O.Outside.loses) c.set_walks.new.tree c.charge.new.outside c.args.place (λ style. script c.in-Some.body.now) c.eval_value-ended.new.tree c.eval_value-ended.new.outside) c.in_ok-collects.ensures c.if-not-branch.true c.eval_value-ended.ensures.runs in
+    let x = Gathering.collected_ok c.eval_read-ended.result c.in_ok-collects.field-0 false c.turns.made c.collects.new.made
+    (EndsAt (ways g.O.Outside.goes g.O.Outside.loses) c.set_walks.new.tree c.charge.new.outside c.args.place (λ style. script c.in-Some.body.now) c.eval_read-ended.new.tree c.eval_read-ended.new.outside) c.in_ok-collects.ensures c.if-not-branch.true c.eval_read-ended.ensures.runs in
     ran c.collected-then-not-branch.result (EndsBy (gives (written_list c.collects.new.made)))
-    (EndsFrom (ways g.O.Outside.goes g.O.Outside.loses) c.args.tree.now c.args.outside.now c.args.place (λ style. lmap c.args.args.now) c.eval_value-ended.new.tree c.eval_value-ended.new.outside)
+    (EndsFrom (ways g.O.Outside.goes g.O.Outside.loses) c.args.tree.now c.args.outside.now c.args.place (λ style. lmap c.args.args.now) c.eval_read-ended.new.tree c.eval_read-ended.new.outside)
     (λ e h q style at.
     let here = still_at c.args.tree.now c.turns.tree c.args.place q style c.turns.invariant.here at in
     let after = still_at _ _ c.args.place q style (level_here _ _ c.args.place c.charge.ensures.level) here in
@@ -2296,8 +2343,8 @@ collecting::lmap-returns-then-not-branch-clause-runs g t c =
 pub collecting::lmap-turns-preserved : goal.collecting::lmap-turns-preserved
 collecting::lmap-turns-preserved g t c =
     let more = ap (λ (ws : List Walk). is_over (walks_at c.turns.turns ws)) (sym c.as_slice.ensures.value) ∙ sym c.is_over.ensures ∙ c.if-is_over.false in
-    let x = Gathering.collected_ok c.eval_value-ended.result c.in_ok-collects.field-0 true c.turns.made c.collects.new.made
-    (EndsAt (ways g.O.Outside.goes g.O.Outside.loses) c.set_walks.new.tree c.charge.new.outside c.args.place (λ style. script c.in-Some.body.now) c.eval_value-ended.new.tree c.eval_value-ended.new.outside) c.in_ok-collects.ensures c.if-not-branch.false c.eval_value-ended.ensures.runs in
+    let x = Gathering.collected_ok c.eval_read-ended.result c.in_ok-collects.field-0 true c.turns.made c.collects.new.made
+    (EndsAt (ways g.O.Outside.goes g.O.Outside.loses) c.set_walks.new.tree c.charge.new.outside c.args.place (λ style. script c.in-Some.body.now) c.eval_read-ended.new.tree c.eval_read-ended.new.outside) c.in_ok-collects.ensures c.if-not-branch.false c.eval_read-ended.ensures.runs in
     record {
       leads = λ q style at V z r run.
           let here = still_at c.args.tree.now c.turns.tree c.args.place q style c.turns.invariant.here at in
@@ -2312,8 +2359,8 @@ collecting::lmap-turns-preserved g t c =
           (at_prog (x.2 (λ made. go (Lmap (map passed (walks_at c.turns.turns c.in_ok-walks.walks.items)) c.in-Some.body.now made) done))
           (goes_done {i = Lmap (map passed (walks_at c.turns.turns c.in_ok-walks.walks.items)) c.in-Some.body.now c.collects.new.made}
           (at_prog (ap (λ (ws : List Left). lmap_turns ws c.in-Some.body.now c.collects.new.made) (Walking.walks_next c.turns.turns c.in_ok-walks.walks.items)) run)))));
-      here = here-trans c.args.tree.now c.set_walks.new.tree c.eval_value-ended.new.tree c.args.place (here-trans c.args.tree.now c.charge.new.tree c.set_walks.new.tree c.args.place (here-trans c.args.tree.now c.turns.tree c.charge.new.tree c.args.place c.turns.invariant.here (level_here c.turns.tree c.charge.new.tree c.args.place c.charge.ensures.level)) (level_here c.charge.new.tree c.set_walks.new.tree c.args.place c.set_walks.ensures.level)) (here_in c.eval_value-ended.result c.in_ok-collects.ensures.0 (IsHere c.set_walks.new.tree c.eval_value-ended.new.tree c.args.place) c.in_ok-collects.ensures.1 c.eval_value-ended.ensures.here);
-      keeps = keeps-trans (keeps-trans (keeps-trans c.turns.invariant.keeps (charged_keeps c.charge.ensures.level c.charge.ensures.left)) (level_keeps _ c.set_walks.ensures.level)) c.eval_value-ended.ensures.keeps;
+      here = here-trans c.args.tree.now c.set_walks.new.tree c.eval_read-ended.new.tree c.args.place (here-trans c.args.tree.now c.charge.new.tree c.set_walks.new.tree c.args.place (here-trans c.args.tree.now c.turns.tree c.charge.new.tree c.args.place c.turns.invariant.here (level_here c.turns.tree c.charge.new.tree c.args.place c.charge.ensures.level)) (level_here c.charge.new.tree c.set_walks.new.tree c.args.place c.set_walks.ensures.level)) (here_in c.eval_read-ended.result c.in_ok-collects.ensures.0 (IsHere c.set_walks.new.tree c.eval_read-ended.new.tree c.args.place) c.in_ok-collects.ensures.1 c.eval_read-ended.ensures.here);
+      keeps = keeps-trans (keeps-trans (keeps-trans c.turns.invariant.keeps (charged_keeps c.charge.ensures.level c.charge.ensures.left)) (level_keeps _ c.set_walks.ensures.level)) c.eval_read-ended.ensures.keeps;
     }
 
 pub collecting::lmap-returns-clause-runs : goal.collecting::lmap-returns-clause-runs
@@ -2380,22 +2427,22 @@ pub expressions::while_loop-returns-then-not-branch-clause-keeps : goal.expressi
 expressions::while_loop-returns-then-not-branch-clause-keeps g t c = keeps-trans c.turns.invariant.keeps c.turn.ensures.keeps
 
 pub expressions::for_loop-turn-requires : goal.expressions::for_loop-turn-requires
-expressions::for_loop-turn-requires g t c κs within = (search rules, (search rules, still_running c.args.tree.now c.turns.tree c.args.place c.turns.invariant.here c.requires))
+expressions::for_loop-turn-requires g t c κs within = (search rules, (search rules, (still_running c.args.tree.now c.turns.tree c.args.place c.turns.invariant.here c.requires, c.deref-2.ensures ∙ c.in_ok-script.ensures)))
 
-pub expressions::for_loop-eval_value-requires-in-turns : goal.expressions::for_loop-eval_value-requires-in-turns
-expressions::for_loop-eval_value-requires-in-turns g t c κs within = (search rules, (search rules, let r = still_running c.args.tree.now c.turn.new.tree c.args.place (here-trans c.args.tree.now c.turns.tree c.turn.new.tree c.args.place c.turns.invariant.here c.in_ok-turn.ensures.here) c.requires in (r.0, r.1)))
+pub expressions::for_loop-eval_read-requires : goal.expressions::for_loop-eval_read-requires
+expressions::for_loop-eval_read-requires g t c κs within = (search rules, (search rules, let r = still_running c.args.tree.now c.turn.new.tree c.args.place (here-trans c.args.tree.now c.turns.tree c.turn.new.tree c.args.place c.turns.invariant.here c.in_ok-turn.ensures.here) c.requires in ((r.0, r.1), c.deref-3.ensures ∙ c.in_ok-between.ensures)))
 
 pub loops::walk_through-returns-in_err-goes_on-clause-keeps : goal.loops::walk_through-returns-in_err-goes_on-clause-keeps
-loops::walk_through-returns-in_err-goes_on-clause-keeps g t c = keeps-trans c.turns.invariant.keeps (keeps-trans (charged_keeps c.charge.ensures.level c.charge.ensures.left) (keeps-trans (level_keeps _ c.set_walks.ensures.level) c.eval_value.ensures.keeps))
+loops::walk_through-returns-in_err-goes_on-clause-keeps g t c = keeps-trans c.turns.invariant.keeps (keeps-trans (charged_keeps c.charge.ensures.level c.charge.ensures.left) (keeps-trans (level_keeps _ c.set_walks.ensures.level) c.eval_read.ensures.keeps))
 
 pub loops::walk_through-returns-then-not-branch-clause-keeps : goal.loops::walk_through-returns-then-not-branch-clause-keeps
-loops::walk_through-returns-then-not-branch-clause-keeps g t c = keeps-trans c.turns.invariant.keeps (keeps-trans (charged_keeps c.charge.ensures.level c.charge.ensures.left) (keeps-trans (level_keeps _ c.set_walks.ensures.level) c.eval_value.ensures.keeps))
+loops::walk_through-returns-then-not-branch-clause-keeps g t c = keeps-trans c.turns.invariant.keeps (keeps-trans (charged_keeps c.charge.ensures.level c.charge.ensures.left) (keeps-trans (level_keeps _ c.set_walks.ensures.level) c.eval_read.ensures.keeps))
 
 pub collecting::lmap-returns-in_err-collects-clause-keeps : goal.collecting::lmap-returns-in_err-collects-clause-keeps
-collecting::lmap-returns-in_err-collects-clause-keeps g t c = keeps-trans c.turns.invariant.keeps (keeps-trans (charged_keeps c.charge.ensures.level c.charge.ensures.left) (keeps-trans (level_keeps _ c.set_walks.ensures.level) c.eval_value-ended.ensures.keeps))
+collecting::lmap-returns-in_err-collects-clause-keeps g t c = keeps-trans c.turns.invariant.keeps (keeps-trans (charged_keeps c.charge.ensures.level c.charge.ensures.left) (keeps-trans (level_keeps _ c.set_walks.ensures.level) c.eval_read-ended.ensures.keeps))
 
 pub collecting::lmap-returns-then-not-branch-clause-keeps : goal.collecting::lmap-returns-then-not-branch-clause-keeps
-collecting::lmap-returns-then-not-branch-clause-keeps g t c = keeps-trans c.turns.invariant.keeps (keeps-trans (charged_keeps c.charge.ensures.level c.charge.ensures.left) (keeps-trans (level_keeps _ c.set_walks.ensures.level) c.eval_value-ended.ensures.keeps))
+collecting::lmap-returns-then-not-branch-clause-keeps g t c = keeps-trans c.turns.invariant.keeps (keeps-trans (charged_keeps c.charge.ensures.level c.charge.ensures.left) (keeps-trans (level_keeps _ c.set_walks.ensures.level) c.eval_read-ended.ensures.keeps))
 
 -- `interp`, and a child's own command
 
@@ -3199,10 +3246,10 @@ pub control::catch-keep_caught-requires : goal.control::catch-keep_caught-requir
 control::catch-keep_caught-requires g t c = (c.requires.0, still_named c.args.tree.now c.eval_value.new.tree c.args.place c.requires.0 (here_caught c.eval_value.result c.caught.result c.in_ok-completion.completion c.args.tree.now c.eval_value.new.tree c.args.place c.in_ok-completion.was c.caught.ensures c.eval_value.ensures.here) c.requires.1)
 
 pub expressions::turn-charge-requires : goal.expressions::turn-charge-requires
-expressions::turn-charge-requires g t c = (c.requires.0, still_named c.args.tree.now c.condition.new.tree c.args.place c.requires.0 c.in_ok-condition.ensures.here c.requires.1)
+expressions::turn-charge-requires g t c = (c.requires.running.0, still_named c.args.tree.now c.condition.new.tree c.args.place c.requires.running.0 c.in_ok-condition.ensures.here c.requires.running.1)
 
-pub expressions::turn-eval_value-requires : goal.expressions::turn-eval_value-requires
-expressions::turn-eval_value-requires g t c κs within = (search rules, (search rules, (c.requires.0, still_named c.args.tree.now c.charge.new.tree c.args.place c.requires.0 (here-trans c.args.tree.now c.condition.new.tree c.charge.new.tree c.args.place c.in_ok-condition.ensures.here (level_here c.condition.new.tree c.charge.new.tree c.args.place c.charge.ensures.level)) c.requires.1)))
+pub expressions::turn-eval_read-requires : goal.expressions::turn-eval_read-requires
+expressions::turn-eval_read-requires g t c κs within = (search rules, (search rules, ((c.requires.running.0, still_named c.args.tree.now c.charge.new.tree c.args.place c.requires.running.0 (here-trans c.args.tree.now c.condition.new.tree c.charge.new.tree c.args.place c.in_ok-condition.ensures.here (level_here c.condition.new.tree c.charge.new.tree c.args.place c.charge.ensures.level)) c.requires.running.1), c.requires.read)))
 
 pub loops::walk_through-charge-requires : goal.loops::walk_through-charge-requires
 loops::walk_through-charge-requires g t c = (c.requires.0, still_named c.args.tree.now c.turns.tree c.args.place c.requires.0 c.turns.invariant.here c.requires.1)
@@ -3210,8 +3257,8 @@ loops::walk_through-charge-requires g t c = (c.requires.0, still_named c.args.tr
 pub loops::walk_through-set_walks-requires : goal.loops::walk_through-set_walks-requires
 loops::walk_through-set_walks-requires g t c = (c.requires.0, still_named c.args.tree.now c.charge.new.tree c.args.place c.requires.0 (here-trans c.args.tree.now c.turns.tree c.charge.new.tree c.args.place c.turns.invariant.here (level_here c.turns.tree c.charge.new.tree c.args.place c.charge.ensures.level)) c.requires.1)
 
-pub loops::walk_through-eval_value-requires : goal.loops::walk_through-eval_value-requires
-loops::walk_through-eval_value-requires g t c κs within = (search rules, (search rules, (c.requires.0, still_named c.args.tree.now c.set_walks.new.tree c.args.place c.requires.0 (here-trans c.args.tree.now c.charge.new.tree c.set_walks.new.tree c.args.place (here-trans c.args.tree.now c.turns.tree c.charge.new.tree c.args.place c.turns.invariant.here (level_here c.turns.tree c.charge.new.tree c.args.place c.charge.ensures.level)) (level_here c.charge.new.tree c.set_walks.new.tree c.args.place c.set_walks.ensures.level)) c.requires.1)))
+pub loops::walk_through-eval_read-requires : goal.loops::walk_through-eval_read-requires
+loops::walk_through-eval_read-requires g t c κs within = (search rules, (search rules, ((c.requires.0, still_named c.args.tree.now c.set_walks.new.tree c.args.place c.requires.0 (here-trans c.args.tree.now c.charge.new.tree c.set_walks.new.tree c.args.place (here-trans c.args.tree.now c.turns.tree c.charge.new.tree c.args.place c.turns.invariant.here (level_here c.turns.tree c.charge.new.tree c.args.place c.charge.ensures.level)) (level_here c.charge.new.tree c.set_walks.new.tree c.args.place c.set_walks.ensures.level)) c.requires.1), c.deref.ensures ∙ c.in_ok-script.ensures)))
 
 pub collecting::lmap-charge-requires : goal.collecting::lmap-charge-requires
 collecting::lmap-charge-requires g t c = (c.requires.0, still_named c.args.tree.now c.turns.tree c.args.place c.requires.0 c.turns.invariant.here c.requires.1)
@@ -3219,8 +3266,8 @@ collecting::lmap-charge-requires g t c = (c.requires.0, still_named c.args.tree.
 pub collecting::lmap-set_walks-requires : goal.collecting::lmap-set_walks-requires
 collecting::lmap-set_walks-requires g t c = (c.requires.0, still_named c.args.tree.now c.charge.new.tree c.args.place c.requires.0 (here-trans c.args.tree.now c.turns.tree c.charge.new.tree c.args.place c.turns.invariant.here (level_here c.turns.tree c.charge.new.tree c.args.place c.charge.ensures.level)) c.requires.1)
 
-pub collecting::lmap-eval_value-ended-requires : goal.collecting::lmap-eval_value-ended-requires
-collecting::lmap-eval_value-ended-requires g t c κs within = (search rules, (search rules, (c.requires.0, still_named c.args.tree.now c.set_walks.new.tree c.args.place c.requires.0 (here-trans c.args.tree.now c.charge.new.tree c.set_walks.new.tree c.args.place (here-trans c.args.tree.now c.turns.tree c.charge.new.tree c.args.place c.turns.invariant.here (level_here c.turns.tree c.charge.new.tree c.args.place c.charge.ensures.level)) (level_here c.charge.new.tree c.set_walks.new.tree c.args.place c.set_walks.ensures.level)) c.requires.1)))
+pub collecting::lmap-eval_read-ended-requires : goal.collecting::lmap-eval_read-ended-requires
+collecting::lmap-eval_read-ended-requires g t c κs within = (search rules, (search rules, ((c.requires.0, still_named c.args.tree.now c.set_walks.new.tree c.args.place c.requires.0 (here-trans c.args.tree.now c.charge.new.tree c.set_walks.new.tree c.args.place (here-trans c.args.tree.now c.turns.tree c.charge.new.tree c.args.place c.turns.invariant.here (level_here c.turns.tree c.charge.new.tree c.args.place c.charge.ensures.level)) (level_here c.charge.new.tree c.set_walks.new.tree c.args.place c.set_walks.ensures.level)) c.requires.1), c.deref.ensures ∙ c.in_ok-script.ensures)))
 
 pub evaluation::eval_commands-eval_command-requires : goal.evaluation::eval_commands-eval_command-requires
 evaluation::eval_commands-eval_command-requires g t c κs within = (search rules, (search rules, still_running c.args.tree.now c.commands.tree c.args.place c.commands.invariant.here c.requires.running))
@@ -3229,7 +3276,7 @@ pub expressions::compute-eval_operand-requires : goal.expressions::compute-eval_
 expressions::compute-eval_operand-requires g t c κs within = (search rules, (search rules, still_running c.args.tree.now c.parts.tree c.args.place c.parts.invariant.here c.requires))
 
 pub expressions::while_loop-turn-requires : goal.expressions::while_loop-turn-requires
-expressions::while_loop-turn-requires g t c κs within = (search rules, (search rules, still_running c.args.tree.now c.turns.tree c.args.place c.turns.invariant.here c.requires))
+expressions::while_loop-turn-requires g t c κs within = (search rules, (search rules, (still_running c.args.tree.now c.turns.tree c.args.place c.turns.invariant.here c.requires, c.deref-2.ensures ∙ c.in_ok-script.ensures)))
 
 pub expressions::if_many-eval_value-requires-2 : goal.expressions::if_many-eval_value-requires-2
 expressions::if_many-eval_value-requires-2 g t c κs within = (search rules, (search rules, (c.requires.0, still_named c.args.tree.now c.tests.tree c.args.place c.requires.0 c.tests.invariant.here c.requires.1)))
@@ -3417,14 +3464,14 @@ expressions::turn-returns-in_err-charge-clause-here g t c = on_completion c.from
 
 pub expressions::turn-returns-clause-here : goal.expressions::turn-returns-clause-here
 expressions::turn-returns-clause-here g t c =
-    here_turned after_body c.eval_value.result c.goes_on.result (IsHere c.args.tree.now c.eval_value.new.tree c.args.place) c.goes_on.ensures
-    (here_then c.eval_value.result c.args.tree.now c.charge.new.tree c.eval_value.new.tree c.args.place (here-trans c.args.tree.now c.condition.new.tree c.charge.new.tree c.args.place c.in_ok-condition.ensures.here (level_here c.condition.new.tree c.charge.new.tree c.args.place c.charge.ensures.level)) c.eval_value.ensures.here)
+    here_turned after_body c.eval_read.result c.goes_on.result (IsHere c.args.tree.now c.eval_read.new.tree c.args.place) c.goes_on.ensures
+    (here_then c.eval_read.result c.args.tree.now c.charge.new.tree c.eval_read.new.tree c.args.place (here-trans c.args.tree.now c.condition.new.tree c.charge.new.tree c.args.place c.in_ok-condition.ensures.here (level_here c.condition.new.tree c.charge.new.tree c.args.place c.charge.ensures.level)) c.eval_read.ensures.here)
 
 pub expressions::turn-returns-in_err-charge-clause-keeps : goal.expressions::turn-returns-in_err-charge-clause-keeps
 expressions::turn-returns-in_err-charge-clause-keeps g t c = keeps-trans c.condition.ensures.keeps (charged_keeps c.charge.ensures.level c.charge.ensures.left)
 
 pub expressions::turn-returns-clause-keeps : goal.expressions::turn-returns-clause-keeps
-expressions::turn-returns-clause-keeps g t c = keeps-trans c.condition.ensures.keeps (keeps-trans (charged_keeps c.charge.ensures.level c.charge.ensures.left) c.eval_value.ensures.keeps)
+expressions::turn-returns-clause-keeps g t c = keeps-trans c.condition.ensures.keeps (keeps-trans (charged_keeps c.charge.ensures.level c.charge.ensures.left) c.eval_read.ensures.keeps)
 
 pub expressions::while_loop-returns-in_err-turn-clause-here : goal.expressions::while_loop-returns-in_err-turn-clause-here
 expressions::while_loop-returns-in_err-turn-clause-here g t c =
@@ -3442,6 +3489,12 @@ expressions::for_loop-returns-in_err-on_ok-clause-here g t c =
 pub expressions::for_loop-returns-in_err-test-clause-here : goal.expressions::for_loop-returns-in_err-test-clause-here
 expressions::for_loop-returns-in_err-test-clause-here g t c = on_completion c.from_residual-in_err-test.result (IsHere c.args.tree.now c.eval_value.new.tree c.args.place) (here_text c.eval_value.result c.in_ok-on_ok.field-0 c.args.tree.now c.eval_value.new.tree c.args.place c.in_ok-on_ok.ensures.text c.eval_value.ensures.here)
 
+pub expressions::for_loop-returns-in_err-script-clause-here : goal.expressions::for_loop-returns-in_err-script-clause-here
+expressions::for_loop-returns-in_err-script-clause-here g t c = on_completion c.from_residual-in_err-script.result (IsHere c.args.tree.now c.eval_value.new.tree c.args.place) (here_text c.eval_value.result c.in_ok-on_ok.field-0 c.args.tree.now c.eval_value.new.tree c.args.place c.in_ok-on_ok.ensures.text c.eval_value.ensures.here)
+
+pub expressions::for_loop-returns-in_err-between-clause-here : goal.expressions::for_loop-returns-in_err-between-clause-here
+expressions::for_loop-returns-in_err-between-clause-here g t c = on_completion c.from_residual-in_err-between.result (IsHere c.args.tree.now c.eval_value.new.tree c.args.place) (here_text c.eval_value.result c.in_ok-on_ok.field-0 c.args.tree.now c.eval_value.new.tree c.args.place c.in_ok-on_ok.ensures.text c.eval_value.ensures.here)
+
 pub expressions::for_loop-returns-in_err-turn-clause-here : goal.expressions::for_loop-returns-in_err-turn-clause-here
 expressions::for_loop-returns-in_err-turn-clause-here g t c =
     let p = err_from_is_err_and c.from_residual-in_err-turn.result c.from_residual-in_err-turn.ensures.1 in
@@ -3453,16 +3506,16 @@ expressions::for_loop-returns-then-not-branch-clause-here g t c = here-trans c.a
 pub expressions::for_loop-returns-in_err-turns_on-clause-here : goal.expressions::for_loop-returns-in_err-turns_on-clause-here
 expressions::for_loop-returns-in_err-turns_on-clause-here g t c =
     let p = err_from_is_err_and c.from_residual-in_err-turns_on.result c.from_residual-in_err-turns_on.ensures.1 in
-    here_passed c.from_residual-in_err-turns_on.result c.eval_value-in-turns.result c.in_err-turns_on.field-0.0 p.0 c.args.tree.now c.turn.new.tree c.eval_value-in-turns.new.tree c.args.place p.1 p.2 c.in_err-turns_on.ensures.0 (here-trans c.args.tree.now c.turns.tree c.turn.new.tree c.args.place c.turns.invariant.here c.in_ok-turn.ensures.here) c.eval_value-in-turns.ensures.here
+    here_passed c.from_residual-in_err-turns_on.result c.eval_read.result c.in_err-turns_on.field-0.0 p.0 c.args.tree.now c.turn.new.tree c.eval_read.new.tree c.args.place p.1 p.2 c.in_err-turns_on.ensures.0 (here-trans c.args.tree.now c.turns.tree c.turn.new.tree c.args.place c.turns.invariant.here c.in_ok-turn.ensures.here) c.eval_read.ensures.here
 
 pub expressions::for_loop-returns-then-not-branch-2-clause-here : goal.expressions::for_loop-returns-then-not-branch-2-clause-here
-expressions::for_loop-returns-then-not-branch-2-clause-here g t c = here-trans c.args.tree.now c.turn.new.tree c.eval_value-in-turns.new.tree c.args.place (here-trans c.args.tree.now c.turns.tree c.turn.new.tree c.args.place c.turns.invariant.here c.in_ok-turn.ensures.here) (here_in c.eval_value-in-turns.result c.in_ok-turns_on.ensures.0 (IsHere c.turn.new.tree c.eval_value-in-turns.new.tree c.args.place) c.in_ok-turns_on.ensures.1 c.eval_value-in-turns.ensures.here)
+expressions::for_loop-returns-then-not-branch-2-clause-here g t c = here-trans c.args.tree.now c.turn.new.tree c.eval_read.new.tree c.args.place (here-trans c.args.tree.now c.turns.tree c.turn.new.tree c.args.place c.turns.invariant.here c.in_ok-turn.ensures.here) (here_in c.eval_read.result c.in_ok-turns_on.ensures.0 (IsHere c.turn.new.tree c.eval_read.new.tree c.args.place) c.in_ok-turns_on.ensures.1 c.eval_read.ensures.here)
 
 pub loops::walk_through-returns-then-is_over-clause-here : goal.loops::walk_through-returns-then-is_over-clause-here
 loops::walk_through-returns-then-is_over-clause-here g t c = c.turns.invariant.here
 
 pub loops::walk_through-returns-in_err-charge-clause-here : goal.loops::walk_through-returns-in_err-charge-clause-here
-loops::walk_through-returns-in_err-charge-clause-here g t c = on_completion c.from_residual.result (IsHere c.args.tree.now c.charge.new.tree c.args.place) (here-trans c.args.tree.now c.turns.tree c.charge.new.tree c.args.place c.turns.invariant.here (level_here c.turns.tree c.charge.new.tree c.args.place c.charge.ensures.level))
+loops::walk_through-returns-in_err-charge-clause-here g t c = on_completion c.from_residual-in_err-charge.result (IsHere c.args.tree.now c.charge.new.tree c.args.place) (here-trans c.args.tree.now c.turns.tree c.charge.new.tree c.args.place c.turns.invariant.here (level_here c.turns.tree c.charge.new.tree c.args.place c.charge.ensures.level))
 
 pub loops::walk_through-returns-in_err-set_walks-clause-here : goal.loops::walk_through-returns-in_err-set_walks-clause-here
 loops::walk_through-returns-in_err-set_walks-clause-here g t c = on_completion c.from_residual-in_err-set_walks.result (IsHere c.args.tree.now c.set_walks.new.tree c.args.place) (here-trans c.args.tree.now c.charge.new.tree c.set_walks.new.tree c.args.place (here-trans c.args.tree.now c.turns.tree c.charge.new.tree c.args.place c.turns.invariant.here (level_here c.turns.tree c.charge.new.tree c.args.place c.charge.ensures.level)) (level_here c.charge.new.tree c.set_walks.new.tree c.args.place c.set_walks.ensures.level))
@@ -3470,10 +3523,10 @@ loops::walk_through-returns-in_err-set_walks-clause-here g t c = on_completion c
 pub loops::walk_through-returns-in_err-goes_on-clause-here : goal.loops::walk_through-returns-in_err-goes_on-clause-here
 loops::walk_through-returns-in_err-goes_on-clause-here g t c =
     let p = err_from_is_err_and c.from_residual-in_err-goes_on.result c.from_residual-in_err-goes_on.ensures.1 in
-    here_passed c.from_residual-in_err-goes_on.result c.eval_value.result c.in_err-goes_on.field-0.0 p.0 c.args.tree.now c.set_walks.new.tree c.eval_value.new.tree c.args.place p.1 p.2 c.in_err-goes_on.ensures.0 (here-trans c.args.tree.now c.charge.new.tree c.set_walks.new.tree c.args.place (here-trans c.args.tree.now c.turns.tree c.charge.new.tree c.args.place c.turns.invariant.here (level_here c.turns.tree c.charge.new.tree c.args.place c.charge.ensures.level)) (level_here c.charge.new.tree c.set_walks.new.tree c.args.place c.set_walks.ensures.level)) c.eval_value.ensures.here
+    here_passed c.from_residual-in_err-goes_on.result c.eval_read.result c.in_err-goes_on.field-0.0 p.0 c.args.tree.now c.set_walks.new.tree c.eval_read.new.tree c.args.place p.1 p.2 c.in_err-goes_on.ensures.0 (here-trans c.args.tree.now c.charge.new.tree c.set_walks.new.tree c.args.place (here-trans c.args.tree.now c.turns.tree c.charge.new.tree c.args.place c.turns.invariant.here (level_here c.turns.tree c.charge.new.tree c.args.place c.charge.ensures.level)) (level_here c.charge.new.tree c.set_walks.new.tree c.args.place c.set_walks.ensures.level)) c.eval_read.ensures.here
 
 pub loops::walk_through-returns-then-not-branch-clause-here : goal.loops::walk_through-returns-then-not-branch-clause-here
-loops::walk_through-returns-then-not-branch-clause-here g t c = here-trans c.args.tree.now c.set_walks.new.tree c.eval_value.new.tree c.args.place (here-trans c.args.tree.now c.charge.new.tree c.set_walks.new.tree c.args.place (here-trans c.args.tree.now c.turns.tree c.charge.new.tree c.args.place c.turns.invariant.here (level_here c.turns.tree c.charge.new.tree c.args.place c.charge.ensures.level)) (level_here c.charge.new.tree c.set_walks.new.tree c.args.place c.set_walks.ensures.level)) (here_in c.eval_value.result c.in_ok-goes_on.ensures.0 (IsHere c.set_walks.new.tree c.eval_value.new.tree c.args.place) c.in_ok-goes_on.ensures.1 c.eval_value.ensures.here)
+loops::walk_through-returns-then-not-branch-clause-here g t c = here-trans c.args.tree.now c.set_walks.new.tree c.eval_read.new.tree c.args.place (here-trans c.args.tree.now c.charge.new.tree c.set_walks.new.tree c.args.place (here-trans c.args.tree.now c.turns.tree c.charge.new.tree c.args.place c.turns.invariant.here (level_here c.turns.tree c.charge.new.tree c.args.place c.charge.ensures.level)) (level_here c.charge.new.tree c.set_walks.new.tree c.args.place c.set_walks.ensures.level)) (here_in c.eval_read.result c.in_ok-goes_on.ensures.0 (IsHere c.set_walks.new.tree c.eval_read.new.tree c.args.place) c.in_ok-goes_on.ensures.1 c.eval_read.ensures.here)
 
 pub loops::walk_through-returns-in_err-charge-clause-keeps : goal.loops::walk_through-returns-in_err-charge-clause-keeps
 loops::walk_through-returns-in_err-charge-clause-keeps g t c = keeps-trans c.turns.invariant.keeps (charged_keeps c.charge.ensures.level c.charge.ensures.left)
@@ -3493,10 +3546,10 @@ collecting::lmap-returns-in_err-set_walks-clause-here g t c = on_completion c.fr
 pub collecting::lmap-returns-in_err-collects-clause-here : goal.collecting::lmap-returns-in_err-collects-clause-here
 collecting::lmap-returns-in_err-collects-clause-here g t c =
     let p = err_from_is_err_and c.from_residual-in_err-collects.result c.from_residual-in_err-collects.ensures.1 in
-    here_err c.from_residual-in_err-collects.result c.in_err-collects.field-0.0 p.0 c.args.tree.now c.set_walks.new.tree c.eval_value-ended.new.tree c.args.place p.1 p.2 (here-trans c.args.tree.now c.charge.new.tree c.set_walks.new.tree c.args.place (here-trans c.args.tree.now c.turns.tree c.charge.new.tree c.args.place c.turns.invariant.here (level_here c.turns.tree c.charge.new.tree c.args.place c.charge.ensures.level)) (level_here c.charge.new.tree c.set_walks.new.tree c.args.place c.set_walks.ensures.level)) (here_collected c.eval_value-ended.result c.in_err-collects.field-0.0 c.turns.made c.collects.new.made (IsHere c.set_walks.new.tree c.eval_value-ended.new.tree c.args.place) c.in_err-collects.ensures c.eval_value-ended.ensures.here)
+    here_err c.from_residual-in_err-collects.result c.in_err-collects.field-0.0 p.0 c.args.tree.now c.set_walks.new.tree c.eval_read-ended.new.tree c.args.place p.1 p.2 (here-trans c.args.tree.now c.charge.new.tree c.set_walks.new.tree c.args.place (here-trans c.args.tree.now c.turns.tree c.charge.new.tree c.args.place c.turns.invariant.here (level_here c.turns.tree c.charge.new.tree c.args.place c.charge.ensures.level)) (level_here c.charge.new.tree c.set_walks.new.tree c.args.place c.set_walks.ensures.level)) (here_collected c.eval_read-ended.result c.in_err-collects.field-0.0 c.turns.made c.collects.new.made (IsHere c.set_walks.new.tree c.eval_read-ended.new.tree c.args.place) c.in_err-collects.ensures c.eval_read-ended.ensures.here)
 
 pub collecting::lmap-returns-then-not-branch-clause-here : goal.collecting::lmap-returns-then-not-branch-clause-here
-collecting::lmap-returns-then-not-branch-clause-here g t c = on_completion c.collected-then-not-branch.result (IsHere c.args.tree.now c.eval_value-ended.new.tree c.args.place) (here-trans c.args.tree.now c.set_walks.new.tree c.eval_value-ended.new.tree c.args.place (here-trans c.args.tree.now c.charge.new.tree c.set_walks.new.tree c.args.place (here-trans c.args.tree.now c.turns.tree c.charge.new.tree c.args.place c.turns.invariant.here (level_here c.turns.tree c.charge.new.tree c.args.place c.charge.ensures.level)) (level_here c.charge.new.tree c.set_walks.new.tree c.args.place c.set_walks.ensures.level)) (here_in c.eval_value-ended.result c.in_ok-collects.ensures.0 (IsHere c.set_walks.new.tree c.eval_value-ended.new.tree c.args.place) c.in_ok-collects.ensures.1 c.eval_value-ended.ensures.here))
+collecting::lmap-returns-then-not-branch-clause-here g t c = on_completion c.collected-then-not-branch.result (IsHere c.args.tree.now c.eval_read-ended.new.tree c.args.place) (here-trans c.args.tree.now c.set_walks.new.tree c.eval_read-ended.new.tree c.args.place (here-trans c.args.tree.now c.charge.new.tree c.set_walks.new.tree c.args.place (here-trans c.args.tree.now c.turns.tree c.charge.new.tree c.args.place c.turns.invariant.here (level_here c.turns.tree c.charge.new.tree c.args.place c.charge.ensures.level)) (level_here c.charge.new.tree c.set_walks.new.tree c.args.place c.set_walks.ensures.level)) (here_in c.eval_read-ended.result c.in_ok-collects.ensures.0 (IsHere c.set_walks.new.tree c.eval_read-ended.new.tree c.args.place) c.in_ok-collects.ensures.1 c.eval_read-ended.ensures.here))
 
 pub collecting::lmap-returns-in_err-charge-clause-keeps : goal.collecting::lmap-returns-in_err-charge-clause-keeps
 collecting::lmap-returns-in_err-charge-clause-keeps g t c = keeps-trans c.turns.invariant.keeps (charged_keeps c.charge.ensures.level c.charge.ensures.left)
@@ -3614,6 +3667,9 @@ children::child-returns-in_err-name-clause-here g t c = unmoved c.from_residual.
 pub children::child-returns-in_err-text-clause-here : goal.children::child-returns-in_err-text-clause-here
 children::child-returns-in_err-text-clause-here g t c = unmoved c.from_residual-in_err-text.result c.args.tree.now c.args.place
 
+pub collecting::lmap-returns-in_err-script-clause-here : goal.collecting::lmap-returns-in_err-script-clause-here
+collecting::lmap-returns-in_err-script-clause-here g t c = unmoved c.from_residual-in_err-script.result c.args.tree.now c.args.place
+
 pub collecting::lmap-returns-in_err-made-clause-here : goal.collecting::lmap-returns-in_err-made-clause-here
 collecting::lmap-returns-in_err-made-clause-here g t c = unmoved c.from_residual-in_err-made.result c.args.tree.now c.args.place
 
@@ -3658,6 +3714,9 @@ expressions::expr-returns-in_err-text-clause-here g t c = unmoved c.from_residua
 
 pub expressions::if_many-returns-in_err-branches-clause-here : goal.expressions::if_many-returns-in_err-branches-clause-here
 expressions::if_many-returns-in_err-branches-clause-here g t c = unmoved c.from_residual.result c.args.tree.now c.args.place
+
+pub expressions::while_loop-returns-in_err-script-clause-here : goal.expressions::while_loop-returns-in_err-script-clause-here
+expressions::while_loop-returns-in_err-script-clause-here g t c = unmoved c.from_residual-in_err-script.result c.args.tree.now c.args.place
 
 pub expressions::while_loop-returns-in_err-test-clause-here : goal.expressions::while_loop-returns-in_err-test-clause-here
 expressions::while_loop-returns-in_err-test-clause-here g t c = unmoved c.from_residual.result c.args.tree.now c.args.place

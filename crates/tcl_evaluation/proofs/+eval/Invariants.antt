@@ -31,6 +31,9 @@ decreases-evaluation::eval_bracket g l = 32032 * g.O.Outside.entries_left l.outs
 abbrev pub decreases-evaluation::eval_value : goal.decreases-evaluation::eval_value
 decreases-evaluation::eval_value g l = 32032 * g.O.Outside.entries_left l.outside.now + 32 * room (tree_of l.tree.now) + 1
 
+abbrev pub decreases-evaluation::eval_read : goal.decreases-evaluation::eval_read
+decreases-evaluation::eval_read g l = 32032 * g.O.Outside.entries_left l.outside.now + 32 * room (tree_of l.tree.now) + 1
+
 abbrev pub decreases-control::eval : goal.decreases-control::eval
 decreases-control::eval g l = 32032 * g.O.Outside.entries_left l.outside.now + 32 * room (tree_of l.tree.now) + 2
 

@@ -3,7 +3,9 @@
 //! A call is a list, which is made on one host; one that only changes it answers `-`, and one that
 //! is refused the refusal's name. `ask CALL ..` makes a call as a request that is a value, and
 //! answers its reply.
-use crate::tree_rows::answers::{Answer, Told, done, given, no_call, number, refused, truth, written};
+use crate::tree_rows::answers::{
+    Answer, Told, done, given, no_call, number, refused, truth, written,
+};
 use crate::tree_rows::words::{number_of, words_of};
 use row_runner::World;
 use std::alloc::{AllocError, Global};

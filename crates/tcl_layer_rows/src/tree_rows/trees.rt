@@ -7,7 +7,9 @@
 //! There is a second tree, which is kept: `keep` makes it a copy of the first, `copy PATH` one of
 //! the interpreter at a path with all below it, `swap` exchanges the two, and `same` tells whether
 //! they are equal.
-use crate::tree_rows::answers::{Answer, Told, count, done, given, no_call, refused, truth, written};
+use crate::tree_rows::answers::{
+    Answer, Told, count, done, given, no_call, refused, truth, written,
+};
 use crate::tree_rows::paths::at_path;
 use crate::tree_rows::words::{number_of, place_of, style_of, words_of};
 use row_runner::World;

@@ -9,7 +9,7 @@ use Rattle.tcl_frames.proofs.NearLemmas.{inserted_near, inserted_sound, below}
 use Rattle.tcl_frames.proofs.frames.Frames.insert_near.Goals as goal
 
 pub index_mut-frame-requires : goal.index_mut-frame-requires
-index_mut-frame-requires c = let b = below c.self.inside.frames.items (reverse c.self.inside.aside.items) c.args.self.now c.self.view_is c.level-level.result (c.level-level.ensures ∙ ap (λ (s : Chain). current s.frames) c.self.view_is) c.self.invariant.0 in omega (arith, b, c.self.inside.frames.ok.0)
+index_mut-frame-requires c = let b = below c.self.inside.frames.items (reverse c.self.inside.aside.items) c.args.self.now c.self.view_is c.level-level.result c.level-level.ensures c.self.invariant.0 in omega (arith, b, c.self.inside.frames.ok.0)
 
 pub invariant_of-self : goal.invariant_of-self
 invariant_of-self c =
@@ -18,8 +18,8 @@ invariant_of-self c =
     let n = c.level-level.result in
     let f = c.index_mut-frame.result.now in
     let simple = sym c.is_simple.ensures ∙ c.if-not-is_simple.false in
-    let at = slice_get_read fs (length fs) n f refl (below fs as' c.args.self.now c.self.view_is n (c.level-level.ensures ∙ ap (λ (s : Chain). current s.frames) c.self.view_is) c.self.invariant.0) c.index_mut-frame.ensures.value in
-    inserted_sound fs as' n c.args.name.now c.args.value f c.insert_near.new.self c.insert_near.result at c.insert_near.ensures.ok (vec_capacity c.self.inside.frames) simple c.level-level.ensures c.insert_near.ensures.unchanged c.self.invariant
+    let at = slice_get_read fs (length fs) n f refl (below fs as' c.args.self.now c.self.view_is n c.level-level.ensures c.self.invariant.0) c.index_mut-frame.ensures.value in
+    inserted_sound fs as' n c.args.name.now c.args.value f c.insert_near.new.self c.insert_near.result at c.insert_near.ensures.ok (vec_capacity c.self.inside.frames) simple (c.level-level.ensures ∙ sym (ap (λ (s : Chain). current s.frames) c.self.view_is)) c.insert_near.ensures.unchanged c.self.invariant
 
 pub returns-clause-ok : goal.returns-clause-ok
 returns-clause-ok c =
@@ -28,7 +28,7 @@ returns-clause-ok c =
     let n = c.level-level.result in
     let f = c.index_mut-frame.result.now in
     let simple = sym c.is_simple.ensures ∙ c.if-not-is_simple.false in
-    let is = c.level-level.ensures ∙ ap (λ (s : Chain). current s.frames) c.self.view_is in
+    let is = c.level-level.ensures in
     let at = slice_get_read fs (length fs) n f refl (below fs as' c.args.self.now c.self.view_is n is c.self.invariant.0) c.index_mut-frame.ensures.value in
     inserted_near fs as' n c.args.name.now c.args.value f c.insert_near.new.self c.insert_near.result at c.insert_near.ensures.ok c.args.self.now c.self.view_is simple is
 
@@ -38,6 +38,6 @@ returns-clause-unchanged c =
     let as' = reverse c.self.inside.aside.items in
     let n = c.level-level.result in
     let f = c.index_mut-frame.result.now in
-    let is = c.level-level.ensures ∙ ap (λ (s : Chain). current s.frames) c.self.view_is in
+    let is = c.level-level.ensures in
     let at = slice_get_read fs (length fs) n f refl (below fs as' c.args.self.now c.self.view_is n is c.self.invariant.0) c.index_mut-frame.ensures.value in
     on_err_weaker c.insert_near.result (λ p. kept_is fs as' n f c.insert_near.new.self c.args.self.now c.self.view_is at p) c.insert_near.ensures.unchanged
