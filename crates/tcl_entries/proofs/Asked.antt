@@ -13,7 +13,7 @@ use Rattle.tcl_core.specs.Trees.{Tree, Node}
 use Rattle.tcl_language.specs.Instructions.{Instr}
 use Rattle.tcl_language.specs.Instructions.Instr.{Serve}
 use Rattle.tcl_language.specs.Interpreters.{finished}
-use Rattle.tcl_language_laws.specs.Language.{language}
+use Rattle.tcl_run.specs.Language.{language}
 use Rattle.tcl_language.specs.Table.{program, serve}
 use Rattle.tcl_run.specs.Outsides.{Going, Enters, Returns, Misses}
 use Rattle.tcl_run.specs.Runs.{Comes}

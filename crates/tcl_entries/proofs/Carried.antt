@@ -10,7 +10,7 @@ use Rattle.tcl_core.specs.Paths.{Path, rise_to}
 use Rattle.tcl_core.specs.Trees.{depth_of}
 use Rattle.tcl_language.specs.Instructions.{Program}
 use Rattle.tcl_language.specs.Interpreters.{asks_at, no_interpreter}
-use Rattle.tcl_language_laws.specs.Language.{language}
+use Rattle.tcl_run.specs.Language.{language}
 use Rattle.tcl_language.specs.Table.{serve}
 use Rattle.tcl_run.specs.Ends.{IfEnded, Interrupts, failing}
 use Rattle.tcl_run.specs.Entering.{entry_of}

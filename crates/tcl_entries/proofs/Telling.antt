@@ -11,7 +11,7 @@ use Rattle.tcl_core.specs.Trees.{Tree}
 use Rattle.tcl_flow.specs.View.{completion_of}
 use Rattle.tcl_language.specs.Instructions.{Program, either, fails}
 use Rattle.tcl_language.specs.Interpreters.{asks, asks_at, with_text, code_is_ok}
-use Rattle.tcl_language_laws.specs.Language.{language}
+use Rattle.tcl_run.specs.Language.{language}
 use Rattle.tcl_run.specs.Ends.{Interrupts, failing}
 use Rattle.tcl_run.specs.Outsides.{Going}
 use Rattle.tcl_run.specs.Runs.{Comes, Evaluates, IsAt, IsRunning}

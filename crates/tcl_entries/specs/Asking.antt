@@ -9,7 +9,7 @@ use Rattle.tcl_core.specs.Trees.{Tree}
 use Rattle.tcl_language.specs.Instructions.{Program}
 use Rattle.tcl_core.specs.Programs.Prog.{call}
 use Rattle.tcl_language.specs.Interpreters.{asks_at, finished, no_interpreter}
-use Rattle.tcl_language_laws.specs.Language.{language}
+use Rattle.tcl_run.specs.Language.{language}
 use Rattle.tcl_run.specs.Ends.{IfEnded, Interrupts}
 use Rattle.tcl_run.specs.Outsides.{Going}
 use Rattle.tcl_run.specs.Runs.{Comes, IsAt}

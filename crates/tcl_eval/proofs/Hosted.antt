@@ -17,7 +17,7 @@ use Rattle.tcl_run_laws.specs.HostLaws.{WholeRun}
 use Rattle.tcl_run_laws.proofs.Limiting.{language_keeps_tops}
 use Rattle.tcl_run_laws.proofs.HostedWholes.{whole_run}
 use Rattle.tcl_language.specs.Instructions.{fits}
-use Rattle.tcl_language_laws.specs.Language.{language}
+use Rattle.tcl_run.specs.Language.{language}
 use Rattle.tcl_language.specs.Table.{serve}
 use Rattle.tcl_run.specs.Outsides.{hosted}
 use Rattle.tcl_run.specs.Runs.{Comes, ways}

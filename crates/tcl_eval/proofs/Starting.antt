@@ -17,7 +17,7 @@ use Rattle.tcl_core.specs.Runs.{Ending}
 use Rattle.tcl_core.specs.Execution.{Crossings}
 use Rattle.tcl_core.specs.Trees.{Node, Tree, at_end, effect, with_limit}
 use Rattle.tcl_core.specs.Trees.What.{Limited}
-use Rattle.tcl_language_laws.specs.Language.{language}
+use Rattle.tcl_run.specs.Language.{language}
 use Rattle.tcl_language.specs.Table.{serve}
 use Rattle.tcl_run.specs.declared.interruption.Interruption.{Interruption}
 use Rattle.tcl_run.specs.declared.interruption.Interruption.TheVariants as interruption

@@ -22,7 +22,7 @@ use Rattle.tcl_flow.specs.View.{completion_of}
 use Rattle.tcl_language.specs.Instructions.{Program}
 use Rattle.tcl_language.specs.Interpreters.{finished}
 use Rattle.tcl_language.specs.Table.{serve}
-use Rattle.tcl_language_laws.specs.Language.{language}
+use Rattle.tcl_run.specs.Language.{language}
 use Rattle.tcl_run.specs.Ends.{Breaks, Completes, IfEnded, Interrupts, Says, WhereMemory, cause_of}
 use Rattle.tcl_run.specs.Notifying.{WasUnfound}
 use Rattle.tcl_run.specs.Outsides.{Answers, AnswersFor, ComesNext, OnEntry, told_to, reply_of as host_reply}

@@ -14,7 +14,7 @@ use Rattle.tcl_language.specs.Control.{procedure, call_bound, runs_body, binding
 use Rattle.tcl_language.specs.Faults.{wrong_args}
 use Rattle.tcl_language.specs.Instructions.{either, too_long}
 use Rattle.tcl_language.specs.Instructions.Instr.{Script}
-use Rattle.tcl_language_laws.specs.Language.{language}
+use Rattle.tcl_run.specs.Language.{language}
 use Rattle.tcl_language.specs.Scripts.{script}
 use Rattle.tcl_run.specs.declared.interruption.Interruption.{Interruption}
 use Rattle.tcl_run.specs.declared.interruption.Interruption.TheVariants as interruption

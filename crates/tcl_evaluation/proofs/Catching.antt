@@ -13,7 +13,7 @@ use Rattle.tcl_language.specs.Control.{eval, catch, code_text}
 use Rattle.tcl_language.specs.Faults.{wrong_args}
 use Rattle.tcl_language.specs.Instructions.{Program, fits, too_long}
 use Rattle.tcl_language.specs.Instructions.Instr.{Script}
-use Rattle.tcl_language_laws.specs.Language.{language}
+use Rattle.tcl_run.specs.Language.{language}
 use Rattle.tcl_language.specs.Scripts.{script}
 use Rattle.tcl_language.specs.Words.{concat}
 use Rattle.tcl_run.specs.declared.interruption.Interruption.{Interruption}

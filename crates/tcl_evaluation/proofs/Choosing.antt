@@ -13,7 +13,7 @@ use Rattle.tcl_language.specs.Instructions.Instr.{Script, Handled}
 use Rattle.tcl_language.specs.Scripts.{script}
 use Rattle.tcl_language.specs.Trying.{Tried, finishes, handled, keeps, tried_of, try_script}
 use Rattle.tcl_language.specs.Variables.{sets}
-use Rattle.tcl_language_laws.specs.Language.{language}
+use Rattle.tcl_run.specs.Language.{language}
 use Rattle.tcl_run.specs.Ends.{IsFailure, Stays, itself}
 use Rattle.tcl_run.specs.Plain.{Does}
 use Rattle.tcl_run.specs.Runs.{Proceeds, Ways}

@@ -19,7 +19,7 @@ use Rattle.tcl_language.specs.Expressions.{computed, expression, condition, turn
 use Rattle.tcl_language.specs.Faults.{wrong_args}
 use Rattle.tcl_language.specs.Instructions.{Program, either, fits, or_fails, too_long}
 use Rattle.tcl_language.specs.Instructions.Instr.{Script, Parts, Expression}
-use Rattle.tcl_language_laws.specs.Language.{language}
+use Rattle.tcl_run.specs.Language.{language}
 use Rattle.tcl_language.specs.Scripts.{script, parts}
 use Rattle.tcl_language.specs.Words.{concat}
 use Rattle.tcl_operators.specs.Apply.{truth}

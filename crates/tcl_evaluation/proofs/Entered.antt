@@ -14,7 +14,7 @@ use Rattle.tcl_core.specs.Trees.What.{Changed}
 use Rattle.tcl_language.specs.Control.{at_level, level_over}
 use Rattle.tcl_language.specs.Instructions.Instr.{Hidden, Invoke}
 use Rattle.tcl_language.specs.Interpreters.{asks_at}
-use Rattle.tcl_language_laws.specs.Language.{language}
+use Rattle.tcl_run.specs.Language.{language}
 use Rattle.tcl_language.specs.Table.{hidden_at, invoked, serve, settled, some_words}
 use Rattle.tcl_run.specs.Runs.{Counts, IsAt, IsThere, Proceeds, ProceedsAt, RefusesStep, Ways}
 use Rattle.tcl_run.specs.declared.interruption.Interruption.{Interruption}

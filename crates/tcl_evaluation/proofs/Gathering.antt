@@ -11,7 +11,7 @@ use Rattle.tcl_language.specs.Control.{after_result}
 use Rattle.tcl_language.specs.Instructions.{Program, Walk}
 use Rattle.tcl_language.specs.Instructions.Instr.{Script, Lmap}
 use Rattle.tcl_language.specs.Scripts.{script}
-use Rattle.tcl_language_laws.specs.Language.{language}
+use Rattle.tcl_run.specs.Language.{language}
 use Rattle.tcl_run.specs.Ends.{Breaks, IfRan}
 use Rattle.tcl_run.specs.Runs.{Proceeds, Ways}
 use Rattle.tcl_run.specs.declared.interruption.Interruption.{Interruption}

@@ -14,7 +14,7 @@ use Rattle.tcl_language.specs.Control.{at_level, inner_script, level_over, scrip
 use Rattle.tcl_language.specs.Faults.{bad_level}
 use Rattle.tcl_language.specs.Instructions.{Program, fits, look, too_long}
 use Rattle.tcl_language.specs.Instructions.Instr.{Script}
-use Rattle.tcl_language_laws.specs.Language.{language}
+use Rattle.tcl_run.specs.Language.{language}
 use Rattle.tcl_language.specs.Scripts.{script}
 use Rattle.tcl_language.specs.Variables.{found_level, level, level_of}
 use Rattle.tcl_language.specs.Words.{concat, is_level}

@@ -12,7 +12,7 @@ use Rattle.tcl_language.specs.Expressions.{while_loop, while_turns, after_next, 
 use Rattle.tcl_language.specs.Faults.{wrong_args}
 use Rattle.tcl_language.specs.Instructions.{Program}
 use Rattle.tcl_language.specs.Instructions.Instr.{Script, While, For}
-use Rattle.tcl_language_laws.specs.Language.{language}
+use Rattle.tcl_run.specs.Language.{language}
 use Rattle.tcl_language.specs.Scripts.{script}
 use Rattle.tcl_run.specs.Ends.{Stays, failing}
 use Rattle.tcl_run.specs.Runs.{Proceeds, Ways}

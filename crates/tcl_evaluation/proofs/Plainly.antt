@@ -11,7 +11,7 @@ use Rattle.tcl_core.specs.Runs.{Ending}
 use Rattle.tcl_core.specs.Trees.{Tree}
 use Rattle.tcl_language.specs.Instructions.{Instr, Program}
 use Rattle.tcl_language.specs.Interpreters.{asks_at}
-use Rattle.tcl_language_laws.specs.Language.{language}
+use Rattle.tcl_run.specs.Language.{language}
 use Rattle.tcl_run.specs.Ends.{Interrupts}
 use Rattle.tcl_run.specs.Runs.{Comes, Evaluates, EvaluatesAt, IsAt, IsLoss, IsThere, Proceeds, ProceedsAt, ProceedsIn, Ways}
 use Rattle.tcl_run.specs.Runs.Proceeds.{ended}

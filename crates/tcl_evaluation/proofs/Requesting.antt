@@ -19,7 +19,7 @@ use Rattle.tcl_language.specs.Instructions.{Program, fails}
 use Rattle.tcl_language.specs.Instructions.Instr.{Script}
 use Rattle.tcl_language.specs.Scripts.{script}
 use Rattle.tcl_language.specs.Sourcing.{evaluates_file, source}
-use Rattle.tcl_language_laws.specs.Language.{language}
+use Rattle.tcl_run.specs.Language.{language}
 use Rattle.tcl_run.specs.Ends.{Breaks, IfRan, Interrupts}
 use Rattle.tcl_run.specs.Outsides.{reply_of}
 use Rattle.tcl_run.specs.Plain.{Acts, Does}

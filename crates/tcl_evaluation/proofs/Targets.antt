@@ -17,7 +17,7 @@ use Rattle.tcl_language.specs.Faults.{lost_alias}
 use Rattle.tcl_language.specs.Instructions.{Instr, Program}
 use Rattle.tcl_language.specs.Instructions.Instr.{Script, Call, Serve, Target, Hidden}
 use Rattle.tcl_language.specs.Interpreters.{call_alias, no_interpreter}
-use Rattle.tcl_language_laws.specs.Language.{language}
+use Rattle.tcl_run.specs.Language.{language}
 use Rattle.tcl_language.specs.Scripts.{script}
 use Rattle.tcl_language.specs.Faults.{invalid_command, invalid_hidden}
 use Rattle.tcl_language.specs.Table.{called, dispatch, hidden_at, program, serve, some_words}

@@ -16,7 +16,7 @@ use Rattle.tcl_language.specs.Faults.{frame_message, wrong_args}
 use Rattle.tcl_language.specs.Instructions.{Program, Walk, at_node, change, either, fails, fits, too_long, with_chain}
 use Rattle.tcl_language.specs.Instructions.Instr.{Script, Foreach, Lmap}
 use Rattle.tcl_language.specs.Pairing.{dict_for}
-use Rattle.tcl_language_laws.specs.Language.{language}
+use Rattle.tcl_run.specs.Language.{language}
 use Rattle.tcl_language.specs.Variables.{chain_becomes, is_odd, sets}
 use Rattle.tcl_run.specs.Ends.{failing}
 use Rattle.tcl_run.specs.Plain.{Does}

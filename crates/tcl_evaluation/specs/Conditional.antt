@@ -9,7 +9,7 @@ use Rattle.tcl_expr.specs.declared.tree.ExprTree.{ExprTree}
 use Rattle.tcl_language.specs.Control.{after_body}
 use Rattle.tcl_language.specs.Expressions.{expression, condition, turn}
 use Rattle.tcl_language.specs.Instructions.{Program}
-use Rattle.tcl_language_laws.specs.Language.{language}
+use Rattle.tcl_run.specs.Language.{language}
 use Rattle.tcl_run.specs.Ends.{IfRan}
 use Rattle.tcl_run.specs.Runs.{IsAt, Proceeds, Ways}
 use Rattle.tcl_run.specs.declared.interruption.Interruption.{Interruption}

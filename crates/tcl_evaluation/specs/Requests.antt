@@ -6,7 +6,7 @@ use Rattle.tcl_host.specs.declared.reply.HostReply.{HostReply as TheirReply}
 use Rattle.tcl_language.specs.Hosting.{asks}
 use Rattle.tcl_language.specs.Instructions.{Program}
 use Rattle.tcl_language.specs.Sourcing.{evaluates_file}
-use Rattle.tcl_language_laws.specs.Language.{language}
+use Rattle.tcl_run.specs.Language.{language}
 use Rattle.tcl_core.specs.Paths.{Text}
 use Rattle.tcl_run.specs.Ends.{Breaks}
 use Rattle.tcl_run.specs.Outsides.{reply_of}

@@ -15,7 +15,7 @@ use Rattle.tcl_run.specs.Ends.{IfEnded, IfRan}
 use Rattle.tcl_run.specs.declared.interruption.Interruption.{Interruption}
 use Rattle.tcl_run.specs.declared.interruption.Interruption.TheVariants as interruption
 use Rattle.tcl_language.specs.Instructions.{Program, Open}
-use Rattle.tcl_language_laws.specs.Language.{language}
+use Rattle.tcl_run.specs.Language.{language}
 use Rattle.tcl_language.specs.Scripts.{parts}
 use Rattle.tcl_core.specs.Entries.{Entry}
 use Rattle.tcl_entries.specs.Asking.{asks_below}

@@ -18,7 +18,7 @@ use Rattle.tcl_flow.specs.declared.stop.StopKind.TheVariants.{Gone}
 use Rattle.tcl_language.specs.Instructions.{Program}
 use Rattle.tcl_language.specs.Interpreters.{finished, nobody_at}
 use Rattle.tcl_language.specs.Table.{serve}
-use Rattle.tcl_language_laws.specs.Language.{language}
+use Rattle.tcl_run.specs.Language.{language}
 use Rattle.tcl_run.specs.Ends.{Breaks, Completes, IfEnded, IfRan}
 use Rattle.tcl_run.specs.Outsides.{Going, Misses, reply_of}
 use Rattle.tcl_run.specs.Runs.{IsAt, IsSteady, Proceeds, Ways}

@@ -6,7 +6,7 @@ use Rattle.tcl_core.specs.Trees.{Node}
 use Rattle.tcl_core.proofs.Disciplines.{bad}
 use Rattle.tcl_language.specs.Interpreters.{is_count_limit}
 use Rattle.tcl_language.specs.Instructions.{Program, at_node, either}
-use Rattle.tcl_language_laws.specs.Language.{language}
+use Rattle.tcl_run.specs.Language.{language}
 use Rattle.tcl_run_laws.proofs.Limiting.{language_keeps_tops}
 use Rattle.tcl_run_laws.specs.Language.{leaves_steps}
 use Rattle.tcl_run_laws.specs.Limits.{sets_steps}

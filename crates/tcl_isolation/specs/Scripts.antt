@@ -9,7 +9,7 @@ use Rattle.tcl_core.specs.Paths.{Path, Place}
 use Rattle.tcl_core.specs.Tables.{exposes}
 use Rattle.tcl_core.specs.Trees.{Event, Node, Tree, at}
 use Rattle.tcl_core.specs.Views.{moves_of}
-use Rattle.tcl_language_laws.specs.Language.{language}
+use Rattle.tcl_run.specs.Language.{language}
 use Rattle.tcl_language.specs.Safety.{plain}
 use Rattle.tcl_run.specs.Outsides.{Going}
 use Rattle.tcl_text.specs.declared.integer.Integers.{Integers}

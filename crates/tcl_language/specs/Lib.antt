@@ -1,7 +1,6 @@
 pub mod Arrays
 pub mod Branching
 pub mod Changes
-pub mod Complete
 pub mod Control
 pub mod Data
 pub mod Definitions

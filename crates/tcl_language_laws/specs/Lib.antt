@@ -1,3 +1,2 @@
-pub mod Language
 pub mod Rows
 pub mod Safety

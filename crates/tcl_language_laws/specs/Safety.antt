@@ -4,7 +4,7 @@ use Rattle.tcl_core.specs.Paths.{Place}
 use Rattle.tcl_core.specs.Tables.{Keeps_to, hostless, unlimiting}
 use Rattle.tcl_text.specs.declared.integer.Integers.{Integers}
 use Rattle.tcl_language.specs.Safety.{is_modest, is_quiet, plain}
-use Rattle.tcl_language_laws.specs.Language.{language}
+use Rattle.tcl_run.specs.Language.{language}
 
 -- Scripts in a safe interpreter ask the host for nothing where they have no command that does.
 abbrev pub KeepsQuiet : Type 0

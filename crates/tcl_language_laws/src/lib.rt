@@ -1,5 +1,5 @@
-//! The language: the table of commands over which the laws of the core are taken. What the commands
-//! mean stands in tcl_language; each function here is a law of the table.
+//! The laws of the language. What the commands mean stands in tcl_language, and the table of them,
+//! over which the laws of the core are taken, in tcl_run; each function here is a law of the table.
 #![tactic(auto)]
 
 ghost use Rattle.tcl_language.specs.Playing.{PlayIsRun};

@@ -23,7 +23,7 @@ use Rattle.tcl_eval.specs.Waiting.{EndsEntry, ExitOf, MissesEntry}
 use Rattle.tcl_flow.specs.Stopping as stopping
 use Rattle.tcl_flow.specs.View.{completion_of}
 use Rattle.tcl_language.specs.Table.{serve}
-use Rattle.tcl_language_laws.specs.Language.{language}
+use Rattle.tcl_run.specs.Language.{language}
 use Rattle.tcl_reactions.specs.Moving as moving
 use Rattle.tcl_reactions.proofs.Mapped.{lives_along}
 use Rattle.tcl_reactions.proofs.Movements.{reacts}

@@ -15,7 +15,7 @@ use Rattle.tcl_core.specs.Trees.What.{Done, In, Refused, Unfound}
 use Rattle.tcl_core.specs.Views.{steps_of}
 use Rattle.tcl_language.specs.Interpreters.{nobody_at}
 use Rattle.tcl_language.specs.Table.{serve}
-use Rattle.tcl_language_laws.specs.Language.{language}
+use Rattle.tcl_run.specs.Language.{language}
 use Rattle.tcl_reactions.specs.Moving as moving
 use Rattle.tcl_reactions.specs.Moving.{Lived, budgeted}
 use Rattle.tcl_run.specs.Outsides.{Going}

@@ -14,7 +14,7 @@ ghost use Rattle.tcl_open_moves.specs.OpenMoves.{last_end, result_of};
 ghost use Rattle.tcl_open_moves.specs.declared.moves.Outcome.TheVariants.{Denied, Finished};
 ghost use Rattle.tcl_eval.specs.Running.{root_count, unfit};
 ghost use Rattle.tcl_eval.specs.declared.running.Refused.TheVariants.{Memory};
-ghost use Rattle.tcl_language_laws.specs.Language.{language};
+ghost use Rattle.tcl_run.specs.Language.{language};
 ghost use Rattle.tcl_reactions.specs.Moving as moving;
 ghost use Rattle.tcl_reactions.specs.Moving.{Lived, Moved};
 ghost use Rattle.tcl_run.specs.Entering.{whole_entry};

@@ -20,7 +20,7 @@ use Rattle.tcl_open_watching.specs.OpenWatched.{IfDeleted, IfEnds, IfRefused, Is
 use Rattle.tcl_open_watching.specs.declared.watching.OpenDeletion.{OpenDeletion}
 use Rattle.tcl_open_watching.specs.declared.watching.OpenUnwatched.{OpenUnwatched}
 use Rattle.tcl_open_watching.specs.declared.watching.OpenUnwatched.TheVariants as unwatched
-use Rattle.tcl_language_laws.specs.Language.{language}
+use Rattle.tcl_run.specs.Language.{language}
 use Rattle.tcl_recorder.proofs.BoundaryLaws.{boundary_drop}
 use Rattle.tcl_recorder.proofs.Fates as fates
 use Rattle.tcl_recorder.proofs.Fates.{FirstDrop}

@@ -11,7 +11,7 @@ use Rattle.tcl_core.specs.Trees.What.{Done, In}
 use Rattle.tcl_eval.specs.Running.{IsOpenRun, root_count}
 use Rattle.tcl_eval.specs.declared.running.OpenEnd.{OpenEnd}
 use Rattle.tcl_language.specs.Table.{serve}
-use Rattle.tcl_language_laws.specs.Language.{language}
+use Rattle.tcl_run.specs.Language.{language}
 use Rattle.tcl_recorder.proofs.Visits.{watched_entry}
 use Rattle.tcl_recorder.proofs.Watched.{unwatched}
 use Rattle.tcl_recorder.specs.Laws.{WatchedEntry}

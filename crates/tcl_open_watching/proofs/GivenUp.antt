@@ -9,7 +9,7 @@ use Rattle.tcl_core.specs.Trees.What.{Limited}
 use Rattle.tcl_eval.specs.Running.{IsGivenUp}
 use Rattle.tcl_eval.specs.declared.running.Refused.{Refused}
 use Rattle.tcl_language.specs.Table.{serve}
-use Rattle.tcl_language_laws.specs.Language.{language}
+use Rattle.tcl_run.specs.Language.{language}
 use Rattle.tcl_partial_runs.specs.Beginnings.{Begun}
 use Rattle.tcl_partial_runs.specs.Beginnings.Begun.{stopped}
 use Rattle.tcl_recorder.proofs.GivenUp.{given_up_unwatched}

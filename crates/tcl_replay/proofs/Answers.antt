@@ -13,7 +13,7 @@ use Rattle.tcl_eval.specs.declared.running.Refused.TheVariants as refused
 use Rattle.tcl_host.specs.declared.reply.HostReply.{HostReply}
 use Rattle.tcl_host.specs.declared.request.Request.{Request}
 use Rattle.tcl_isolation.specs.Visits.{visit}
-use Rattle.tcl_language_laws.specs.Language.{language}
+use Rattle.tcl_run.specs.Language.{language}
 use Rattle.tcl_run.specs.Outsides.{hosted}
 use Rattle.tcl_run.proofs.Steady.{stands}
 use Rattle.tcl_tree.specs.Own.{Own}

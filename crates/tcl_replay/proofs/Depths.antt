@@ -3,7 +3,7 @@ use Rattle.std.proofs.Common.{◌≡◌, ◌∙◌, ◌⊎◌, inl, inr, ℕ, tr
 use Rattle.tcl_core.specs.Lives.{Outcome}
 use Rattle.tcl_core.specs.Paths.{Place}
 use Rattle.tcl_core.specs.Trees.{Move, Tree, depth_of}
-use Rattle.tcl_language_laws.specs.Language.{language}
+use Rattle.tcl_run.specs.Language.{language}
 use Rattle.tcl_reactions.specs.Playing.{Fate, Lived, Player, last_end, left_by, outcome, outcome_by, tree_left}
 use Rattle.tcl_reactions.specs.Playing.Fate.{Waits, Unfits, EndsAbove, Spends}
 use Rattle.tcl_reactions.proofs.Depths.{depths_stay}

@@ -20,7 +20,7 @@ use Rattle.tcl_run_laws.specs.Replies.{Belongs}
 use Rattle.tcl_run_laws.proofs.Limiting.{language_keeps_tops}
 use Rattle.tcl_run_laws.proofs.Taping.{Taped}
 use Rattle.tcl_run_laws.proofs.HostedWholes.{WholeTape, whole_tape}
-use Rattle.tcl_language_laws.specs.Language.{language}
+use Rattle.tcl_run.specs.Language.{language}
 use Rattle.tcl_language.specs.Table.{serve}
 use Rattle.tcl_run.specs.Outsides.{hosted}
 use Rattle.tcl_run.specs.Runs.{Comes}

@@ -26,7 +26,7 @@ use Rattle.tcl_isolation.proofs.Safe as safe
 use Rattle.tcl_isolation.proofs.Untouching.{rest_untouched}
 use Rattle.tcl_isolation.proofs.Until.{does_until}
 use Rattle.tcl_isolation.proofs.Watching as watching
-use Rattle.tcl_language_laws.specs.Language.{language}
+use Rattle.tcl_run.specs.Language.{language}
 use Rattle.tcl_language.specs.Safety.{plain}
 use Rattle.tcl_run.specs.Outsides.{hosted}
 use Rattle.tcl_text.specs.declared.integer.Integers.{Integers}

@@ -14,7 +14,7 @@ use Rattle.tcl_core.specs.Trees.What.{Charged, Refused, Dropped, Out, In, Done, 
 use Rattle.tcl_eval.specs.Waiting.{EndsEntry, MissesEntry}
 use Rattle.tcl_flow.specs.View.{completion_of}
 use Rattle.tcl_flow.specs.Stopping as stopping
-use Rattle.tcl_language_laws.specs.Language.{language}
+use Rattle.tcl_run.specs.Language.{language}
 use Rattle.tcl_player.specs.Players.{Begins, played, player_of}
 use Rattle.tcl_player.specs.Moves.{moves_in}
 use Rattle.tcl_player.specs.declared.moves.Move.{Move as KeptMove}

@@ -15,7 +15,7 @@ use Rattle.tcl_eval.specs.declared.running.Refused.TheVariants as refused
 use Rattle.tcl_host.specs.declared.reply.HostReply.{HostReply}
 use Rattle.tcl_host.specs.declared.request.Request.{Request}
 use Rattle.tcl_language.specs.Table.{serve}
-use Rattle.tcl_language_laws.specs.Language.{language}
+use Rattle.tcl_run.specs.Language.{language}
 use Rattle.tcl_partial_runs.specs.Beginnings.{Begun}
 use Rattle.tcl_partial_runs.specs.Beginnings.Begun.{stopped}
 use Rattle.tcl_recorder.proofs.GivenUp.{given_up_unwatched}

@@ -10,7 +10,7 @@ use Rattle.tcl_core.specs.Execution.{event}
 use Rattle.tcl_core.specs.Trees.{Event, Move, Node, Tree}
 use Rattle.tcl_core.specs.Trees.What.{Done, In, Unfound}
 use Rattle.tcl_eval.specs.Running.{most_steps}
-use Rattle.tcl_language_laws.specs.Language.{language}
+use Rattle.tcl_run.specs.Language.{language}
 use Rattle.tcl_player.specs.Players.{played, player_of}
 use Rattle.tcl_player.specs.declared.player.Player as declared
 use Rattle.tcl_reactions.specs.Playing.{Player, plays}

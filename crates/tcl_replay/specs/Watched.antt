@@ -28,7 +28,7 @@ use Rattle.tcl_isolation.specs.Limits.{AreLowering}
 use Rattle.tcl_isolation.specs.Visits.{CallsNobody, IsBelowTheTop, visit}
 use Rattle.tcl_core.specs.Programs.{Table as LanguageTable}
 use Rattle.tcl_language.specs.Instructions.{Instr, fits}
-use Rattle.tcl_language_laws.specs.Language.{language}
+use Rattle.tcl_run.specs.Language.{language}
 use Rattle.tcl_language.specs.Safety.{plain}
 use Rattle.tcl_run.specs.Outsides.{hosted}
 use Rattle.tcl_run.specs.Runs.{ways}

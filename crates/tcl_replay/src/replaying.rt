@@ -3,7 +3,7 @@ ghost use Rattle.std.specs.Prelude.{◌≡◌, ◌+◌, ◌≤◌, false, length
 ghost use Rattle.std.specs.Prelude.{IfSome, OnOk};
 ghost use Rattle.tcl_core.specs.Lives.{React};
 ghost use Rattle.tcl_eval.specs.Running.{most_steps, root_count};
-ghost use Rattle.tcl_language_laws.specs.Language.{language};
+ghost use Rattle.tcl_run.specs.Language.{language};
 ghost use Rattle.tcl_player.specs.Moves.{moves_in};
 ghost use Rattle.tcl_player.specs.Players.{Stands, player_of, result_of};
 ghost use Rattle.tcl_reactions.specs.Playing as playing;

@@ -1,6 +1,7 @@
-pub mod Entering
 pub mod Ends
-pub mod Runs
-pub mod Plain
-pub mod Outsides
+pub mod Entering
+pub mod Language
 pub mod Notifying
+pub mod Outsides
+pub mod Plain
+pub mod Runs

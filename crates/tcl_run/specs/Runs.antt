@@ -26,7 +26,7 @@ use Rattle.tcl_tree.specs.declared.tree.Tree as table
 use Rattle.tcl_tree.specs.declared.tree.Place as table_place
 use Rattle.tcl_text.specs.declared.integer.Integers.{Integers}
 use Rattle.tcl_language.specs.Instructions.{Instr, Program, with_chain}
-use Rattle.tcl_language.specs.Complete.{language}
+use Rattle.tcl_run.specs.Language.{language}
 use Rattle.tcl_run.specs.Ends.{IfEnded, IfRan}
 use Rattle.tcl_run.specs.Outsides.{Going}
 use Rattle.tcl_run.specs.declared.interruption.Interruption.{Interruption}

@@ -34,7 +34,7 @@ use Rattle.tcl_run_laws.proofs.Nearness.{limited_top}
 use Rattle.tcl_run_laws.proofs.Orders.{still_there}
 use Rattle.tcl_run_laws.proofs.Taping.{Taped, all_written, tapes, unwritten}
 use Rattle.tcl_run_laws.specs.Language.{leaves_steps}
-use Rattle.tcl_language_laws.specs.Language.{language}
+use Rattle.tcl_run.specs.Language.{language}
 use Rattle.tcl_language.specs.Table.{serve}
 use Rattle.tcl_text.specs.declared.integer.Integers.{Integers}
 

@@ -15,7 +15,7 @@ use Rattle.tcl_language.specs.Instructions.{Instr, Program}
 use Rattle.tcl_language.specs.Instructions.Instr.{Serve}
 use Rattle.tcl_language.specs.Naming.{exposed_as}
 use Rattle.tcl_language.specs.Table.{program, serve}
-use Rattle.tcl_language_laws.specs.Language.{language}
+use Rattle.tcl_run.specs.Language.{language}
 use Rattle.tcl_text.specs.declared.integer.Integers.{Integers}
 
 no_true : {A : Type 0} → false ≡ true → A

@@ -12,7 +12,7 @@ use Rattle.tcl_run_laws.specs.Replies.{Belongs}
 use Rattle.tcl_run_laws.specs.Limits.{HasTop, KeepTops}
 use Rattle.tcl_host.specs.declared.reply.HostReply.{HostReply as TheirReply}
 use Rattle.tcl_host.specs.declared.request.Request.{Request as TheirRequest}
-use Rattle.tcl_language_laws.specs.Language.{language}
+use Rattle.tcl_run.specs.Language.{language}
 use Rattle.tcl_language.specs.Table.{serve}
 use Rattle.tcl_run.specs.Outsides.{hosted}
 use Rattle.tcl_text.specs.declared.integer.Integers.{Integers}

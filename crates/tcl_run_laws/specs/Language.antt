@@ -3,7 +3,7 @@ use Rattle.std.specs.Prelude.{Bool, true, not}
 use Rattle.tcl_text.specs.declared.integer.Integers.{Integers}
 use Rattle.tcl_language.specs.Instructions.{Instr}
 use Rattle.tcl_language.specs.Instructions.Instr.{Serve}
-use Rattle.tcl_language_laws.specs.Language.{language}
+use Rattle.tcl_run.specs.Language.{language}
 use Rattle.tcl_run_laws.specs.Limits.{KeepTops, sets_steps}
 
 abbrev pub leaves_steps : Instr → Bool

@@ -8,7 +8,7 @@ use Rattle.tcl_core.specs.Trees.What.{Done, Out}
 use Rattle.tcl_core.specs.Views.{moves_of}
 use Rattle.tcl_eval.specs.declared.running.Refused.{Refused}
 use Rattle.tcl_eval.specs.declared.running.Refused.TheVariants as refused
-use Rattle.tcl_language_laws.specs.Language.{language}
+use Rattle.tcl_run.specs.Language.{language}
 use Rattle.tcl_player.specs.Players.{result_of}
 use Rattle.tcl_player.specs.declared.player.Outcome.{Outcome}
 use Rattle.tcl_protocol.specs.declared.answers.Replayed.{Replayed}

@@ -4,7 +4,7 @@ ghost use Rattle.std.specs.String.{string_bytes};
 ghost use Rattle.tcl_core.specs.Lives.{React};
 ghost use Rattle.tcl_core.specs.Trees.{at};
 ghost use Rattle.tcl_core.specs.Views.{moves_of};
-ghost use Rattle.tcl_language_laws.specs.Language.{language};
+ghost use Rattle.tcl_run.specs.Language.{language};
 ghost use Rattle.tcl_player.specs.Players.{result_of};
 ghost use Rattle.tcl_record_texts.specs.Lines.{event_lines, replay_lines};
 ghost use Rattle.tcl_recorder.specs.Crossings.{events_of};

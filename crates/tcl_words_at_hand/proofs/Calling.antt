@@ -9,7 +9,7 @@ use Rattle.tcl_core.specs.Trees.{Tree, Node}
 use Rattle.tcl_frames.specs.Places.{Levels}
 use Rattle.tcl_language.specs.Instructions.{fits}
 use Rattle.tcl_language.specs.Scripts.{parts, words}
-use Rattle.tcl_language_laws.specs.Language.{language}
+use Rattle.tcl_run.specs.Language.{language}
 use Rattle.tcl_parser.specs.Reading.{read_script}
 use Rattle.tcl_parser.specs.Words.{WordRead}
 use Rattle.tcl_parser.specs.declared.script.Part.{Part}

@@ -16,7 +16,7 @@ use Rattle.tcl_expr.specs.declared.tree.Node.{Node}
 use Rattle.tcl_language.specs.Expressions.{computed, expression, expr}
 use Rattle.tcl_language.specs.Instructions.{Program, fits}
 use Rattle.tcl_language.specs.Instructions.Instr.{Parts, Expression}
-use Rattle.tcl_language_laws.specs.Language.{language}
+use Rattle.tcl_run.specs.Language.{language}
 use Rattle.tcl_language.specs.Scripts.{parts}
 use Rattle.tcl_language.specs.Words.{concat}
 use Rattle.tcl_operators.specs.Messages.{message_of as operator_message}

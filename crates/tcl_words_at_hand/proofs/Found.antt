@@ -8,7 +8,7 @@ use Rattle.tcl_core.specs.Paths.{Text, Path}
 use Rattle.tcl_core.specs.Endings.{Reply}
 use Rattle.tcl_core.specs.Trees.{Tree, Node}
 use Rattle.tcl_language.specs.Faults.{bad_name, invalid_command, invalid_hidden}
-use Rattle.tcl_language_laws.specs.Language.{language}
+use Rattle.tcl_run.specs.Language.{language}
 use Rattle.tcl_language.specs.Naming.{command_name}
 use Rattle.tcl_language.specs.Table.{called, invoked, dispatch, kept_name}
 use Rattle.tcl_run.specs.Ends.{IsFailure, itself}

@@ -17,7 +17,7 @@ use Rattle.tcl_frames.specs.Chain.{read}
 use Rattle.tcl_language.specs.Faults.{frame_message}
 use Rattle.tcl_language.specs.Instructions.{Instr, Program, Open, fits, too_long, on_ok, on_code, grown, or_fails}
 use Rattle.tcl_language.specs.Instructions.Instr.{Script, Commands, Words, Parts, Call}
-use Rattle.tcl_language_laws.specs.Language.{language}
+use Rattle.tcl_run.specs.Language.{language}
 use Rattle.tcl_language.specs.Scripts.{script, commands, words, parts, charged, spread, over, element_text}
 use Rattle.tcl_parser.specs.declared.fault.Fault.{Fault}
 use Rattle.tcl_parser.specs.declared.script.Part.{Part}

@@ -13,7 +13,7 @@ use Rattle.tcl_interpreter.specs.declared.command.Command.TheVariants as command
 use Rattle.tcl_language.specs.Scripts.{commands}
 use Rattle.tcl_language.specs.Table.{called}
 use Rattle.tcl_language.specs.Words.{concat}
-use Rattle.tcl_language_laws.specs.Language.{language}
+use Rattle.tcl_run.specs.Language.{language}
 use Rattle.tcl_number_expressions.specs.AtHand.{IsNumberAtHand}
 use Rattle.tcl_parser.specs.Words.{Reading}
 use Rattle.tcl_prepared.specs.Views.{literal_word}

@@ -7,7 +7,7 @@ use Rattle.tcl_interpreter.specs.declared.builtin.Builtin.{Builtin}
 use Rattle.tcl_interpreter.specs.declared.command.Command.{Command}
 use Rattle.tcl_interpreter.specs.declared.command.Command.TheVariants as command
 use Rattle.tcl_language.specs.Scripts.{words}
-use Rattle.tcl_language_laws.specs.Language.{language}
+use Rattle.tcl_run.specs.Language.{language}
 use Rattle.tcl_parser.specs.Words.{Reading, WordRead}
 use Rattle.tcl_run.specs.Runs.{IsAt, IsThere, Proceeds, Ways}
 use Rattle.tcl_text.specs.declared.integer.Integers.{Integers}

@@ -1,4 +1,4 @@
-use Rattle.tcl_language_laws.specs.Language.{language}
+use Rattle.tcl_run.specs.Language.{language}
 use Rattle.tcl_language.specs.Safety.{is_quiet, plain}
 use Rattle.tcl_isolation.proofs.Safe.{asks_nothing}
 use Rattle.tcl_isolation.proofs.laws.asks_the_host_nothing.Goals as goal

@@ -1,4 +1,4 @@
-use Rattle.tcl_language_laws.specs.Language.{language}
+use Rattle.tcl_run.specs.Language.{language}
 use Rattle.tcl_language.specs.Safety.{is_modest}
 use Rattle.tcl_isolation.proofs.Safe.{limits_stay, own_limits}
 use Rattle.tcl_isolation.proofs.laws.limits_stay.Goals as goal

@@ -1,4 +1,4 @@
-use Rattle.tcl_language_laws.specs.Language.{language}
+use Rattle.tcl_run.specs.Language.{language}
 use Rattle.tcl_run_laws.specs.Language.{leaves_steps}
 use Rattle.tcl_isolation.proofs.Limited.{language_rules}
 use Rattle.tcl_isolation.proofs.Safe.{all_lowering, within_limit}

@@ -3,7 +3,7 @@ use Rattle.tcl_core.specs.Execution.{event}
 use Rattle.tcl_core.specs.Lives.Outcome.{Finished}
 use Rattle.tcl_core.specs.Trees as core
 use Rattle.tcl_core.specs.Trees.What.{In}
-use Rattle.tcl_language_laws.specs.Language.{language}
+use Rattle.tcl_run.specs.Language.{language}
 use Rattle.tcl_reactions.specs.Moving.{Lived}
 use Rattle.tcl_reactions.specs.Moving.Lived.{begun}
 use Rattle.tcl_run.proofs.Steady.{steady-refl, steady-trans}

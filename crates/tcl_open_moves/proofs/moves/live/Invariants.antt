@@ -1,5 +1,5 @@
 use Rattle.tcl_core.specs.Lives.Outcome.{Finished}
-use Rattle.tcl_language_laws.specs.Language.{language}
+use Rattle.tcl_run.specs.Language.{language}
 use Rattle.tcl_reactions.specs.Moving.{Lived}
 use Rattle.tcl_run.specs.Runs.{IsSteady}
 use Rattle.tcl_tree.specs.TreeOf.{marks_of, tree_of}

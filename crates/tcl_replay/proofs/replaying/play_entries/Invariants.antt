@@ -1,5 +1,5 @@
 use Rattle.std.proofs.Common.{◌≡◌, length}
-use Rattle.tcl_language_laws.specs.Language.{language}
+use Rattle.tcl_run.specs.Language.{language}
 use Rattle.tcl_player.specs.Players.{player_of}
 use Rattle.tcl_reactions.specs.Playing.{Lived}
 use Rattle.tcl_tree.specs.TreeOf.{marks_of, tree_of}

@@ -1,4 +1,4 @@
-use Rattle.tcl_language_laws.specs.Language.{language}
+use Rattle.tcl_run.specs.Language.{language}
 use Rattle.tcl_language.specs.Safety.{is_modest}
 use Rattle.tcl_run_laws.proofs.BudgetWholes.{counts, depths, limits, own_limit, root_count, spared_depths, steps, stops, within}
 use Rattle.tcl_run_laws.proofs.budgets.scripts_keep_budgets.Goals as goal

@@ -1,4 +1,4 @@
-use Rattle.tcl_language_laws.specs.Language.{language}
+use Rattle.tcl_run.specs.Language.{language}
 use Rattle.tcl_language.specs.Safety.{is_modest}
 use Rattle.tcl_run_laws.proofs.BudgetWholes.{limits}
 use Rattle.tcl_run_laws.proofs.budgets.scripts_set_no_limit.Goals as goal

@@ -3,7 +3,7 @@ use Rattle.std.specs.Prelude.{◌↔◌, IsTrue}
 use Rattle.tcl_core.specs.Lives.{React}
 use Rattle.tcl_core.specs.Trees.{Event}
 use Rattle.tcl_core.specs.Views.{moves_of}
-use Rattle.tcl_language_laws.specs.Language.{language}
+use Rattle.tcl_run.specs.Language.{language}
 use Rattle.tcl_player.specs.Moves.{moves_in}
 use Rattle.tcl_player.specs.Players.{result_of}
 use Rattle.tcl_record_texts.specs.Lines.{outcome_text}

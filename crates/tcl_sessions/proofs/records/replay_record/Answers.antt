@@ -2,7 +2,7 @@ use Rattle.std.proofs.Common.{List, ap, subst, ◌∙◌}
 use Rattle.tcl_core.specs.Lives.{React}
 use Rattle.tcl_core.specs.Trees.{Event, Move}
 use Rattle.tcl_core.specs.Views.{moves_of}
-use Rattle.tcl_language_laws.specs.Language.{language}
+use Rattle.tcl_run.specs.Language.{language}
 use Rattle.tcl_player.specs.Moves.{moves_in}
 use Rattle.tcl_player.specs.Players.{result_of}
 use Rattle.tcl_recorder.specs.Crossings.{events_of}

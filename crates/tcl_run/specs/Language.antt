@@ -1,4 +1,4 @@
--- The language: the table of its commands, with the proof that it brings along.
+-- The language that is run: the table of its commands.
 use Rattle.tcl_core.specs.Programs.{Table}
 use Rattle.tcl_language.proofs.Calls.{programs_call}
 use Rattle.tcl_language.specs.Instructions.{Instr}

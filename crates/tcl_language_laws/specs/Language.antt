@@ -1,2 +1,0 @@
--- The language of which the laws are.
-pub use Rattle.tcl_language.specs.Complete.{language}
