@@ -2427,10 +2427,10 @@ pub expressions::while_loop-returns-then-not-branch-clause-keeps : goal.expressi
 expressions::while_loop-returns-then-not-branch-clause-keeps g t c = keeps-trans c.turns.invariant.keeps c.turn.ensures.keeps
 
 pub expressions::for_loop-turn-requires : goal.expressions::for_loop-turn-requires
-expressions::for_loop-turn-requires g t c κs within = (search rules, (search rules, (still_running c.args.tree.now c.turns.tree c.args.place c.turns.invariant.here c.requires, c.deref-2.ensures ∙ c.in_ok-script.ensures)))
+expressions::for_loop-turn-requires g t c κs within = (search rules, (search rules, (still_running c.args.tree.now c.turns.tree c.args.place c.turns.invariant.here c.requires, c.deref-in-turns.ensures ∙ c.in_ok-script.ensures)))
 
 pub expressions::for_loop-eval_read-requires : goal.expressions::for_loop-eval_read-requires
-expressions::for_loop-eval_read-requires g t c κs within = (search rules, (search rules, let r = still_running c.args.tree.now c.turn.new.tree c.args.place (here-trans c.args.tree.now c.turns.tree c.turn.new.tree c.args.place c.turns.invariant.here c.in_ok-turn.ensures.here) c.requires in ((r.0, r.1), c.deref-3.ensures ∙ c.in_ok-between.ensures)))
+expressions::for_loop-eval_read-requires g t c κs within = (search rules, (search rules, let r = still_running c.args.tree.now c.turn.new.tree c.args.place (here-trans c.args.tree.now c.turns.tree c.turn.new.tree c.args.place c.turns.invariant.here c.in_ok-turn.ensures.here) c.requires in ((r.0, r.1), c.deref-in-turns-2.ensures ∙ c.in_ok-between.ensures)))
 
 pub loops::walk_through-returns-in_err-goes_on-clause-keeps : goal.loops::walk_through-returns-in_err-goes_on-clause-keeps
 loops::walk_through-returns-in_err-goes_on-clause-keeps g t c = keeps-trans c.turns.invariant.keeps (keeps-trans (charged_keeps c.charge.ensures.level c.charge.ensures.left) (keeps-trans (level_keeps _ c.set_walks.ensures.level) c.eval_read.ensures.keeps))
@@ -3276,7 +3276,7 @@ pub expressions::compute-eval_operand-requires : goal.expressions::compute-eval_
 expressions::compute-eval_operand-requires g t c κs within = (search rules, (search rules, still_running c.args.tree.now c.parts.tree c.args.place c.parts.invariant.here c.requires))
 
 pub expressions::while_loop-turn-requires : goal.expressions::while_loop-turn-requires
-expressions::while_loop-turn-requires g t c κs within = (search rules, (search rules, (still_running c.args.tree.now c.turns.tree c.args.place c.turns.invariant.here c.requires, c.deref-2.ensures ∙ c.in_ok-script.ensures)))
+expressions::while_loop-turn-requires g t c κs within = (search rules, (search rules, (still_running c.args.tree.now c.turns.tree c.args.place c.turns.invariant.here c.requires, c.deref-in-turns.ensures ∙ c.in_ok-script.ensures)))
 
 pub expressions::if_many-eval_value-requires-2 : goal.expressions::if_many-eval_value-requires-2
 expressions::if_many-eval_value-requires-2 g t c κs within = (search rules, (search rules, (c.requires.0, still_named c.args.tree.now c.tests.tree c.args.place c.requires.0 c.tests.invariant.here c.requires.1)))
