@@ -57,8 +57,8 @@ impl Frames {
         }
     }
 
-    /// Sets a name that the current frame doesn't have, in that frame, or gives the value back where
-    /// it has the name, or where the name may mean something else.
+    /// Sets a name that the current frame doesn't have, in that frame, or gives the value back
+    /// where it has the name, or where the name may mean something else.
     fn insert_near(
         &mut self,
         alloc: Global,
