@@ -14,3 +14,5 @@ while {[gets $channel line] >= 0} {
     puts "$name: $text"
     interp delete fresh
 }
+# (one of them writes a file)
+file delete lines
