@@ -34,7 +34,7 @@ fn kept<'a>(commands: &'a Commands, word: &Value) -> Option<(&'a Text, &'a Comma
         (λ found. lookup (bytes_eq word.now) commands.now.entries ≡ Some found.1.now) }
 {
     let (name, command) = commands.get_index(word.place()?)?;
-    if word.is_text(name.as_str().as_bytes()) {
+    if word.is_str(name.as_str()) {
         return Some((name, command));
     }
     None
