@@ -37,13 +37,20 @@ fn delete_watched(alloc: Global) -> Result<(), EmbedError> {
     Ok(())
 }
 
+/// Why nothing is evaluated.
+const REFUSALS: [Refused; 5] = [
+    Refused::Memory,
+    Refused::Broken,
+    Refused::NoInterpreter,
+    Refused::CountTooLarge,
+    Refused::TooLong,
+];
+
 /// Errors of evaluations, of records and of replays.
 fn show_runs(rt: &HostRuntime) -> Result<(), EmbedError> {
-    show(rt, EmbedError::from(Refused::Memory))?;
-    show(rt, EmbedError::from(Refused::Broken))?;
-    show(rt, EmbedError::from(Refused::NoInterpreter))?;
-    show(rt, EmbedError::from(Refused::CountTooLarge))?;
-    show(rt, EmbedError::from(Refused::TooLong))?;
+    'refusals: for refused in REFUSALS {
+        show(rt, EmbedError::from(refused))?;
+    }
     show(rt, EmbedError::from(Unwatched::Refused(Refused::Broken)))?;
     if let Err(error) = delete_watched(rt.alloc()) {
         show(rt, error)?;
@@ -52,20 +59,27 @@ fn show_runs(rt: &HostRuntime) -> Result<(), EmbedError> {
     Ok(())
 }
 
+/// Why a call on a tree is refused.
+const TREE_ERRORS: [TreeError; 12] = [
+    TreeError::Memory,
+    TreeError::BadName,
+    TreeError::BadCount,
+    TreeError::NoInterpreter,
+    TreeError::Exists,
+    TreeError::Denied,
+    TreeError::NoCommand,
+    TreeError::NoHidden,
+    TreeError::TooMany,
+    TreeError::CountLimit(2),
+    TreeError::DepthLimit(0),
+    TreeError::BadDepthLimit,
+];
+
 /// Errors of calls on trees.
 fn show_trees(rt: &HostRuntime) -> Result<(), EmbedError> {
-    show(rt, EmbedError::from(TreeError::Memory))?;
-    show(rt, EmbedError::from(TreeError::BadName))?;
-    show(rt, EmbedError::from(TreeError::BadCount))?;
-    show(rt, EmbedError::from(TreeError::NoInterpreter))?;
-    show(rt, EmbedError::from(TreeError::Exists))?;
-    show(rt, EmbedError::from(TreeError::Denied))?;
-    show(rt, EmbedError::from(TreeError::NoCommand))?;
-    show(rt, EmbedError::from(TreeError::NoHidden))?;
-    show(rt, EmbedError::from(TreeError::TooMany))?;
-    show(rt, EmbedError::from(TreeError::CountLimit(2)))?;
-    show(rt, EmbedError::from(TreeError::DepthLimit(0)))?;
-    show(rt, EmbedError::from(TreeError::BadDepthLimit))?;
+    'errors: for error in TREE_ERRORS {
+        show(rt, EmbedError::from(error))?;
+    }
     Ok(())
 }
 
