@@ -4,5 +4,6 @@ pub mod Orders
 pub mod StandLemmas
 pub mod ByteLemmas
 pub mod MapLemmas
+pub mod RunLemmas
 pub mod Trims
 pub mod StartLemmas
