@@ -5,5 +5,6 @@ pub mod StandLemmas
 pub mod ByteLemmas
 pub mod MapLemmas
 pub mod RunLemmas
+pub mod SkipLemmas
 pub mod Trims
 pub mod StartLemmas

@@ -1,6 +1,6 @@
 //! Texts in which others are put in the place of keys.
-ghost use Rattle.std.specs.Prelude.{◌≡◌, ℕ, suc, ◌<◌, ◌≤◌, ◌++◌, true, false, length, drop, IfOk};
-ghost use Rattle.std.specs.Prelude.{OnOk, IsErrOf, MatchOption, Some, None};
+ghost use Rattle.std.specs.Prelude.{◌≡◌, ℕ, suc, ◌<◌, ◌≤◌, List, [], ◌∷◌, ◌++◌, true, false, length, drop};
+ghost use Rattle.std.specs.Prelude.{IfOk, OnOk, IsErrOf, MatchOption, Some, None};
 ghost use Rattle.std.specs.Str.{chars};
 ghost use Rattle.std.specs.String.{string_bytes};
 ghost use Rattle.tcl_characters.specs.Places.{begins};
@@ -9,6 +9,7 @@ ghost use Rattle.tcl_characters.specs.Mapping.{fits, fitting, mapped};
 
 use crate::letters::split_first;
 use crate::limit::{LimitError, append};
+use memchr::memchr;
 use std::alloc::Global;
 use tcl_glob::characters::first_letter;
 use tcl_text::text::Text;
@@ -73,6 +74,39 @@ fn behind_some_key<'a>(text: &'a str, key: &str, nocase: bool) -> Option<&'a str
     behind_same(text, key)
 }
 
+/// What stands behind the bytes that aren't the first of the only key.
+fn behind_others<'a>(only_key: &str, text: &'a str) -> &'a str
+    ensures { (front : List ℕ) × (text.now ≡ front ++ result.now) ×
+        ((new : List ℕ) → mapped false (only_key.now ∷ new ∷ []) (chars text.now) 0
+        ≡ front ++ mapped false (only_key.now ∷ new ∷ []) (chars result.now) 0) ×
+        (length (chars result.now) ≤ length (chars text.now)) }
+{
+    if only_key.is_empty() {
+        return text;
+    }
+    let bytes = only_key.as_bytes();
+    match memchr(bytes[0], text.as_bytes()) {
+        Some(at) => &text[at..],
+        None => &text[text.len()..],
+    }
+}
+
+/// What stands behind places at which no key of a mapping fits, as far as one byte tells it: where
+/// the mapping has one key alone, and case counts.
+fn behind_unfit<'a>(mapping: &[Text], text: &'a str, nocase: bool) -> &'a str
+    ensures { (front : List ℕ) × (text.now ≡ front ++ result.now) ×
+        (mapped nocase mapping.now (chars text.now) 0
+        ≡ front ++ mapped nocase mapping.now (chars result.now) 0) ×
+        (length (chars result.now) ≤ length (chars text.now)) }
+{
+    if let [key, _new] = mapping {
+        if !nocase {
+            return behind_others(key.as_str(), text);
+        }
+    }
+    text
+}
+
 /// The text before the first place at which a key of a mapping fits, what follows that key, and
 /// what stands for it.
 fn next_fit<'a, 'b>(
@@ -91,7 +125,7 @@ fn next_fit<'a, 'b>(
             let (kept, _) = text.split_at(text.len() - rest.len());
             return Some((kept, behind, new));
         }
-        rest = behind_first;
+        rest = behind_unfit(mapping, behind_first, nocase);
     }
     None
 }

@@ -1,6 +1,7 @@
 use Rattle.std.proofs.Common.{rules}
 use Rattle.std.specs.Str.{chars, IsUtf8}
 use Rattle.tcl_characters.proofs.RunLemmas.{kept_none, kept_more, kept_all, kept_smaller, kept_cut, kept_put}
+use Rattle.tcl_characters.proofs.SkipLemmas.{kept_skip}
 use Rattle.tcl_characters.proofs.mapping.next_fit.Goals as goal
 
 pub places-init : goal.places-init
@@ -18,9 +19,10 @@ returns-in-Some-fitting c =
 
 pub places-preserved : goal.places-preserved
 places-preserved c =
-    let text : IsUtf8 c.in-Some.behind_first.now = search rules in (
-      search rules,
-      kept_more c.args.nocase c.args.mapping.now c.args.text.now c.places.rest.now c.in-Some.behind_first.now c.in-Some.ensures.0 c.places.invariant.0 text c.in-Some.ensures.1 c.in_default-fitting.ensures c.places.invariant.1,
+    let text : IsUtf8 c.in-Some.behind_first.now = search rules in
+    let kept = kept_more c.args.nocase c.args.mapping.now c.args.text.now c.places.rest.now c.in-Some.behind_first.now c.in-Some.ensures.0 c.places.invariant.0 text c.in-Some.ensures.1 c.in_default-fitting.ensures c.places.invariant.1 in (
+      c.behind_unfit-rest.utf8,
+      kept_skip c.args.nocase c.args.mapping.now c.args.text.now c.in-Some.behind_first.now c.behind_unfit-rest.result.now c.behind_unfit-rest.ensures kept,
     )
 
 pub returns : goal.returns
