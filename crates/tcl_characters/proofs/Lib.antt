@@ -4,5 +4,7 @@ pub mod Orders
 pub mod StandLemmas
 pub mod ByteLemmas
 pub mod MapLemmas
+pub mod RunLemmas
+pub mod SkipLemmas
 pub mod Trims
 pub mod StartLemmas

@@ -1,5 +1,5 @@
 -- Steps of the reading of mapped texts.
-use Rattle.std.proofs.Common.{◌≡◌, ℕ, zero, suc, ◌+◌, ◌-◌, ◌≤◌, Bool, true, false, cond, List, [], ◌∷◌, ◌++◌, length, take, drop, get_or, map, Option, Some, None, refl, sym, ◌∙◌, ap, arith, append_assoc}
+use Rattle.std.proofs.Common.{◌≡◌, ℕ, zero, suc, ◌+◌, ◌-◌, ◌≤◌, Bool, true, false, cond, List, [], ◌∷◌, ◌++◌, length, take, drop, get_or, map, Option, Some, None, refl, sym, ◌∙◌, ap, arith}
 use Rattle.std.specs.Prelude.{◌==◌, ◌&&◌, MatchOption}
 use Rattle.std.specs.Char.{encode_utf8, to_ascii_lowercase}
 use Rattle.std.specs.Str.{chars}
@@ -93,9 +93,3 @@ keys_step nocase mapping left cs key new text_key h e f same out i =
 pub match_map : {A : Type 0} (found : Option A) (P P' : Type 0) (Q Q' : A → Type 0) → (P → P') → ((a : A) → Q a → Q' a) → MatchOption found P Q → MatchOption found P' Q'
 match_map None P P' Q Q' f g h = f h
 match_map (Some a) P P' Q Q' f g h = g a h
-
--- a place at which a key fits
-pub put_step : (nocase : Bool) (mapping : List (List ℕ)) (whole cs ds after made more new text_new : List ℕ) (c n : ℕ) → mapped nocase mapping whole 0 ≡ made ++ mapped nocase mapping cs 0 → cs ≡ c ∷ ds → fitting nocase mapping cs ≡ Some (suc n, new) → after ≡ drop (suc n) cs → text_new ≡ new → more ≡ made ++ text_new → mapped nocase mapping whole 0 ≡ more ++ mapped nocase mapping after 0
-put_step nocase mapping whole cs ds after made more new text_new c n i e some behind same pushed =
-    i ∙ ap (λ t. made ++ t) (mapped_put nocase mapping cs ds after new c n e some behind) ∙ sym (append_assoc made new (mapped nocase mapping after 0))
-    ∙ ap (λ t. (made ++ t) ++ mapped nocase mapping after 0) (sym same) ∙ ap (λ t. t ++ mapped nocase mapping after 0) (sym pushed)

@@ -1,6 +1,6 @@
 //! Texts in which others are put in the place of keys.
-ghost use Rattle.std.specs.Prelude.{◌≡◌, ℕ, suc, ◌<◌, ◌≤◌, [], true, false, length, drop, IfOk};
-ghost use Rattle.std.specs.Prelude.{OnOk, IsErrOf, MatchOption, Some, None};
+ghost use Rattle.std.specs.Prelude.{◌≡◌, ℕ, suc, ◌<◌, ◌≤◌, List, [], ◌∷◌, ◌++◌, true, false, length, drop};
+ghost use Rattle.std.specs.Prelude.{IfOk, OnOk, IsErrOf, MatchOption, Some, None};
 ghost use Rattle.std.specs.Str.{chars};
 ghost use Rattle.std.specs.String.{string_bytes};
 ghost use Rattle.tcl_characters.specs.Places.{begins};
@@ -9,6 +9,7 @@ ghost use Rattle.tcl_characters.specs.Mapping.{fits, fitting, mapped};
 
 use crate::letters::split_first;
 use crate::limit::{LimitError, append};
+use memchr::memchr;
 use std::alloc::Global;
 use tcl_glob::characters::first_letter;
 use tcl_text::text::Text;
@@ -48,6 +49,15 @@ fn fitting<'a, 'b>(mapping: &'b [Text], text: &'a str, nocase: bool) -> Option<(
     None
 }
 
+/// What follows a key with which a text begins, where case counts.
+fn behind_same<'a>(text: &'a str, key: &str) -> Option<&'a str>
+    ensures { MatchOption result (begins (chars key.now) (chars text.now) ≡ false)
+        (λ rest. (begins (chars key.now) (chars text.now) ≡ true) ×
+        (chars rest.now ≡ drop (length (chars key.now)) (chars text.now))) }
+{
+    text.strip_prefix(key)
+}
+
 /// What follows a key that isn't empty and with which a text begins.
 fn behind_some_key<'a>(text: &'a str, key: &str, nocase: bool) -> Option<&'a str>
     ensures { MatchOption result (fits (letters nocase key.now) (letters nocase text.now) ≡ false)
@@ -58,7 +68,66 @@ fn behind_some_key<'a>(text: &'a str, key: &str, nocase: bool) -> Option<&'a str
     if key.is_empty() {
         return None;
     }
-    behind_key(text, key, nocase)
+    if nocase {
+        return behind_key(text, key, nocase);
+    }
+    behind_same(text, key)
+}
+
+/// What stands behind the bytes that aren't the first of the only key.
+fn behind_others<'a>(only_key: &str, text: &'a str) -> &'a str
+    ensures { (front : List ℕ) × (text.now ≡ front ++ result.now) ×
+        ((new : List ℕ) → mapped false (only_key.now ∷ new ∷ []) (chars text.now) 0
+        ≡ front ++ mapped false (only_key.now ∷ new ∷ []) (chars result.now) 0) ×
+        (length (chars result.now) ≤ length (chars text.now)) }
+{
+    if only_key.is_empty() {
+        return text;
+    }
+    let bytes = only_key.as_bytes();
+    match memchr(bytes[0], text.as_bytes()) {
+        Some(at) => &text[at..],
+        None => &text[text.len()..],
+    }
+}
+
+/// What stands behind places at which no key of a mapping fits, as far as one byte tells it: where
+/// the mapping has one key alone, and case counts.
+fn behind_unfit<'a>(mapping: &[Text], text: &'a str, nocase: bool) -> &'a str
+    ensures { (front : List ℕ) × (text.now ≡ front ++ result.now) ×
+        (mapped nocase mapping.now (chars text.now) 0
+        ≡ front ++ mapped nocase mapping.now (chars result.now) 0) ×
+        (length (chars result.now) ≤ length (chars text.now)) }
+{
+    if let [key, _new] = mapping {
+        if !nocase {
+            return behind_others(key.as_str(), text);
+        }
+    }
+    text
+}
+
+/// The text before the first place at which a key of a mapping fits, what follows that key, and
+/// what stands for it.
+fn next_fit<'a, 'b>(
+    mapping: &'b [Text],
+    text: &'a str,
+    nocase: bool,
+) -> Option<(&'a str, &'a str, &'b Text)>
+    ensures { MatchOption result (mapped nocase mapping.now (chars text.now) 0 ≡ text.now)
+        (λ found. (mapped nocase mapping.now (chars text.now) 0 ≡ found.0.now ++
+        (found.2.now ++ mapped nocase mapping.now (chars found.1.now) 0)) ×
+        (length (chars found.1.now) < length (chars text.now))) }
+{
+    let mut rest = text;
+    'places: while let Some((_, behind_first)) = split_first(rest) {
+        if let Some((behind, new)) = fitting(mapping, rest, nocase) {
+            let (kept, _) = text.split_at(text.len() - rest.len());
+            return Some((kept, behind, new));
+        }
+        rest = behind_unfit(mapping, behind_first, nocase);
+    }
+    None
 }
 
 /// A text in which what stands for the keys of a mapping is put in their place: at each place the
@@ -77,14 +146,11 @@ pub fn map(alloc: Global, mapping: &[Text], text: &str, nocase: bool) -> Result<
 {
     let mut made = String::new(alloc);
     let mut rest = text;
-    'places: while let Some((first, behind_first)) = split_first(rest) {
-        if let Some((behind, new)) = fitting(mapping, rest, nocase) {
-            append(&mut made, new.as_str())?;
-            rest = behind;
-        } else {
-            append(&mut made, first)?;
-            rest = behind_first;
-        }
+    'fits: while let Some((kept, behind, new)) = next_fit(mapping, rest, nocase) {
+        append(&mut made, kept)?;
+        append(&mut made, new.as_str())?;
+        rest = behind;
     }
+    append(&mut made, rest)?;
     Ok(made)
 }

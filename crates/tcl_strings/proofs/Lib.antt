@@ -1,1 +1,3 @@
 pub mod CommandLemmas
+pub mod SingleBytes
+pub mod PartLemmas

@@ -9,7 +9,7 @@ ghost use Rattle.tcl_words.specs.Limits.{limited};
 ghost use Rattle.tcl_strings.specs.Parts.{length_of, index_of, range_of, reverse_of, trim_of};
 ghost use Rattle.tcl_strings.specs.Parts.{trim_left_of, trim_right_of, white, replaced, replace_of};
 
-use crate::spans::{before, behind, span};
+use crate::spans::{before, behind, counted_span, span};
 use std::alloc::Global;
 use tcl_characters::copies;
 use tcl_characters::parts::character_count;
@@ -44,8 +44,9 @@ pub fn index(alloc: Global, style: Integers, words: &[Text]) -> Result<Answer, R
     ensures { Gives answer_text result (index_of style words.now) }
 {
     let (text, at) = two_words(alloc, words, "string index s i")?;
-    let at = index_word(alloc, style, character_count(text.as_str()), at.as_str())?;
-    text_answer(alloc, span(text.as_str(), at, at))
+    let count = character_count(text.as_str());
+    let at = index_word(alloc, style, count, at.as_str())?;
+    text_answer(alloc, counted_span(text.as_str(), count, at, at))
 }
 
 /// `string range s first last`: the characters from one index to another.
@@ -59,7 +60,7 @@ pub fn range(alloc: Global, style: Integers, words: &[Text]) -> Result<Answer, R
     let count = character_count(text.as_str());
     let first = index_word(alloc, style, count, first.as_str())?;
     let last = index_word(alloc, style, count, last.as_str())?;
-    text_answer(alloc, span(text.as_str(), first, last))
+    text_answer(alloc, counted_span(text.as_str(), count, first, last))
 }
 
 /// `string reverse s`: the characters from the last to the first.
