@@ -125,8 +125,8 @@ fn limit_name(kind: StopKind) -> &'static str
     }
 }
 
-/// An object of these members. (`json!` has an exit at each member, where what is made of the object
-/// is let go: that is dear to prove.)
+/// An object of these members. (`json!` has an exit at each member, where what is made of the
+/// object is let go: that is dear to prove.)
 fn object(alloc: Global, members: Vec<(&str, Value)>) -> Result<Value, AllocError>
     ensures { IfOk result (λ value. view value ≡ object_with members.entry.items) }
 {
