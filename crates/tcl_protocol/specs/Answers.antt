@@ -1,10 +1,12 @@
 -- What is written, as JSON has it.
-use Rattle.serde_json.specs.Data.{Data, array, boolean, member, no_members}
-use Rattle.serde_json.specs.Data.{null, number, object, string, unsigned}
+use Rattle.serde_json.specs.Data.{Data, Members, array, boolean, member, no_members}
+use Rattle.serde_json.specs.Data.{null, number, object, put, string, unsigned}
 use Rattle.serde_json.specs.Find.{of_integer}
-use Rattle.serde_json.specs.View.{items_of}
+use Rattle.serde_json.specs.View.{items_of, view}
 use Rattle.serde_json.specs.Written.{compact_text}
-use Rattle.std.specs.Prelude.{ℕ, List, Option, Some, None, Result, Ok, Err, codes, map}
+use Rattle.serde_json.specs.declared.value.Value.{Value}
+use Rattle.std.specs.Borrow.{Bor}
+use Rattle.std.specs.Prelude.{ℕ, List, [], ◌∷◌, Option, Some, None, Result, Ok, Err, codes, map}
 use Rattle.tcl_core.specs.Paths.{Text}
 use Rattle.tcl_flow.specs.declared.stop.StopKind.{StopKind}
 use Rattle.tcl_flow.specs.declared.stop.StopKind.TheVariants as stop
@@ -18,6 +20,15 @@ use Rattle.tcl_protocol.specs.declared.answers.Replayed.{Replayed}
 use Rattle.tcl_protocol.specs.declared.answers.Standing.{Standing}
 use Rattle.tcl_protocol.specs.declared.answers.Watched.{Watched}
 use Rattle.tcl_protocol.specs.declared.refusals.Refusal.{Refusal}
+
+-- the members, and these put in one after the other
+abbrev pub with_members : List (Bor Text × Value) → Members → Members
+with_members [] members = members
+with_members (m ∷ more) members = with_members more (put m.0.now (view m.1) members)
+
+-- the object of these members
+abbrev pub object_with : List (Bor Text × Value) → Data
+object_with members = object (with_members members no_members)
 
 -- a number, or null
 abbrev pub number_data : Option ℕ → Data

@@ -1,14 +1,17 @@
 //! The lines that are written.
+ghost use Rattle.serde_json.specs.Data.{member, no_members, object};
 ghost use Rattle.serde_json.specs.View.{view};
 ghost use Rattle.std.specs.Prelude.{◌≡◌, IfOk};
 ghost use Rattle.std.specs.String.{string_bytes};
 ghost use Rattle.tcl_protocol.specs.Answers as written;
-ghost use Rattle.tcl_protocol.specs.Answers.{answer_data, ended_data, limit_name};
-ghost use Rattle.tcl_protocol.specs.Answers.{replayed_data, standing_data, text_data, texts_data};
-ghost use Rattle.tcl_protocol.specs.Answers.{watched_data};
+ghost use Rattle.tcl_protocol.specs.Answers.{answer_data, ended_data, error_data, limit_name};
+ghost use Rattle.tcl_protocol.specs.Answers.{object_with, replayed_data, standing_data, text_data};
+ghost use Rattle.tcl_protocol.specs.Answers.{texts_data, watched_data};
+ghost use Rattle.tcl_protocol.specs.declared.answers.Ended.TheVariants.{Completed, Cut, Exited};
+ghost use Rattle.tcl_protocol.specs.declared.answers.Ended.TheVariants.{Stopped};
 
 use crate::refusals::Refusal;
-use serde_json::{Value, json};
+use serde_json::{Map, Value, put};
 use std::alloc::{AllocError, Global};
 use tcl_flow::stop::StopKind;
 use tcl_text::text::Text;
@@ -122,19 +125,74 @@ fn limit_name(kind: StopKind) -> &'static str
     }
 }
 
+/// An object of these members. (`json!` has an exit at each member, where what is made of the
+/// object is let go: that is dear to prove.)
+fn object(alloc: Global, members: Vec<(&str, Value)>) -> Result<Value, AllocError>
+    ensures { IfOk result (λ value. view value ≡ object_with members.entry.items) }
+{
+    let mut object = Map::new(alloc);
+    'members: for (name, value) in members {
+        put(&mut object, alloc, name, value)?;
+    }
+    Ok(Value::Object(object))
+}
+
+/// An object of this member alone.
+fn object_of_one(alloc: Global, name: &str, value: Value) -> Result<Value, AllocError>
+    ensures { IfOk result
+        (λ made. view made ≡ object (member name.now (view value) no_members)) }
+{
+    let mut object = Map::new(alloc);
+    put(&mut object, alloc, name, value)?;
+    Ok(Value::Object(object))
+}
+
+/// That an evaluation completed.
+fn completed_value(alloc: Global, code: i64, text: &Text) -> Result<Value, AllocError>
+    ensures { IfOk result (λ value. view value ≡ ended_data (Completed code text.now)) }
+{
+    let end = Value::try_from_str(alloc, "completed")?;
+    let text = Value::try_from_str(alloc, text.as_str())?;
+    let members = vec![in alloc; ("end", end), ("code", Value::from(code)), ("text", text)]?;
+    object(alloc, members)
+}
+
+/// That an evaluation met this limit.
+fn stopped_value(alloc: Global, kind: StopKind) -> Result<Value, AllocError>
+    ensures { IfOk result (λ value. view value ≡ ended_data (Stopped kind)) }
+{
+    let end = Value::try_from_str(alloc, "stopped")?;
+    let limit = Value::try_from_str(alloc, limit_name(kind))?;
+    let members = vec![in alloc; ("end", end), ("limit", limit)]?;
+    object(alloc, members)
+}
+
+/// That an evaluation ended the whole run.
+fn exited_value(alloc: Global, status: i64) -> Result<Value, AllocError>
+    ensures { IfOk result (λ value. view value ≡ ended_data (Exited status)) }
+{
+    let end = Value::try_from_str(alloc, "exited")?;
+    let members = vec![in alloc; ("end", end), ("status", Value::from(status))]?;
+    object(alloc, members)
+}
+
+/// That the client ended the run, or is gone.
+fn cut_value(alloc: Global) -> Result<Value, AllocError>
+    ensures { IfOk result (λ value. view value ≡ ended_data Cut) }
+{
+    let end = Value::try_from_str(alloc, "cut")?;
+    object_of_one(alloc, "end", end)
+}
+
 /// How an evaluation ended.
 fn ended_value(alloc: Global, ended: &Ended) -> Result<Value, AllocError>
     ensures { IfOk result (λ value. view value ≡ ended_data ended.now) }
 {
     match ended {
-        Ended::Completed(code, text) => json!(in alloc; {
-            "end": "completed",
-            "code": *code,
-            "text": text.as_str()
-        }),
-        Ended::Stopped(kind) => json!(in alloc; {"end": "stopped", "limit": limit_name(*kind)}),
-        Ended::Exited(status) => json!(in alloc; {"end": "exited", "status": *status}),
-        Ended::Cut => json!(in alloc; {"end": "cut"}),
+        Ended::Completed(code, text) => completed_value(alloc, *code, text),
+        Ended::Stopped(kind) => stopped_value(alloc, *kind),
+        Ended::Exited(status) => exited_value(alloc, *status),
+        Ended::Cut => cut_value(alloc),
     }
 }
 
@@ -143,25 +201,29 @@ fn standing_value(alloc: Global, standing: &Standing) -> Result<Value, AllocErro
     ensures { IfOk result (λ value. view value ≡ standing_data standing.now) }
 {
     let children = texts_value(alloc, standing.children.as_slice())?;
-    json!(in alloc; {
-        "children": children,
-        "safe": standing.safe,
-        "count": standing.count,
-        "count_limit": standing.count_limit,
-        "depth": standing.depth,
-        "depth_limit": standing.depth_limit
-    })
+    let members = vec![in alloc;
+        ("children", children),
+        ("safe", Value::Bool(standing.safe)),
+        ("count", Value::from(standing.count)),
+        ("count_limit", Value::from(standing.count_limit)),
+        ("depth", Value::from(standing.depth)),
+        ("depth_limit", Value::from(standing.depth_limit)),
+    ]?;
+    object(alloc, members)
 }
 
 /// An evaluation that was watched.
 fn watched_value(alloc: Global, watched: &Watched) -> Result<Value, AllocError>
     ensures { IfOk result (λ value. view value ≡ watched_data watched.now) }
 {
-    json!(in alloc; {
-        "ended": ended_value(alloc, &watched.ended)?,
-        "record": watched.number,
-        "lines": texts_value(alloc, watched.lines.as_slice())?
-    })
+    let ended = ended_value(alloc, &watched.ended)?;
+    let lines = texts_value(alloc, watched.lines.as_slice())?;
+    let members = vec![in alloc;
+        ("ended", ended),
+        ("record", Value::from(watched.number)),
+        ("lines", lines),
+    ]?;
+    object(alloc, members)
 }
 
 /// A replay.
@@ -169,12 +231,14 @@ fn replayed_value(alloc: Global, replayed: &Replayed) -> Result<Value, AllocErro
     ensures { IfOk result (λ value. view value ≡ replayed_data replayed.now) }
 {
     let lines = texts_value(alloc, replayed.lines.as_slice())?;
-    json!(in alloc; {
-        "lines": lines,
-        "outcome": replayed.outcome.as_str(),
-        "same": replayed.same,
-        "saved": replayed.saved
-    })
+    let outcome = Value::try_from_str(alloc, replayed.outcome.as_str())?;
+    let members = vec![in alloc;
+        ("lines", lines),
+        ("outcome", outcome),
+        ("same", Value::Bool(replayed.same)),
+        ("saved", Value::from(replayed.saved)),
+    ]?;
+    object(alloc, members)
 }
 
 /// What is said of a message that was done.
@@ -182,18 +246,15 @@ fn answer_value(alloc: Global, answer: &Answer) -> Result<Value, AllocError>
     ensures { IfOk result (λ value. view value ≡ answer_data answer.now) }
 {
     match answer {
-        Answer::Done => json!(in alloc; {}),
-        Answer::Tree(number) => json!(in alloc; {"tree": *number}),
-        Answer::Saved(number) => json!(in alloc; {"saved": *number}),
-        Answer::Text(text) => {
-            let text = text_value(alloc, text)?;
-            json!(in alloc; {"text": text})
-        }
+        Answer::Done => Ok(Value::Object(Map::new(alloc))),
+        Answer::Tree(number) => object_of_one(alloc, "tree", Value::from(*number)),
+        Answer::Saved(number) => object_of_one(alloc, "saved", Value::from(*number)),
+        Answer::Text(text) => object_of_one(alloc, "text", text_value(alloc, text)?),
         Answer::Standing(standing) => standing_value(alloc, standing),
         Answer::Ended(ended) => ended_value(alloc, ended),
         Answer::Watched(watched) => watched_value(alloc, watched),
         Answer::Replayed(replayed) => replayed_value(alloc, replayed),
-        Answer::Same(same) => json!(in alloc; {"same": *same}),
+        Answer::Same(same) => object_of_one(alloc, "same", Value::Bool(*same)),
     }
 }
 
@@ -202,16 +263,26 @@ fn answer_object(alloc: Global, id: Option<u64>, answer: &Answer) -> Result<Valu
     ensures { IfOk result (λ value. view value ≡ written.answer_object id answer.now) }
 {
     let answer = answer_value(alloc, answer)?;
-    json!(in alloc; {"id": id, "ok": answer})
+    let members = vec![in alloc; ("id", Value::from(id)), ("ok", answer)]?;
+    object(alloc, members)
+}
+
+/// Why a message isn't done.
+fn error_value(alloc: Global, refusal: &Refusal) -> Result<Value, AllocError>
+    ensures { IfOk result (λ value. view value ≡ error_data refusal.now) }
+{
+    let text = Value::String(refusal.text(alloc)?);
+    let members = vec![in alloc; ("number", Value::from(refusal.number())), ("text", text)]?;
+    object(alloc, members)
 }
 
 /// What answers a message of this id, or of none that can be read, which isn't done.
 fn refusal_object(alloc: Global, id: Option<u64>, refusal: &Refusal) -> Result<Value, AllocError>
     ensures { IfOk result (λ value. view value ≡ written.refusal_object id refusal.now) }
 {
-    let number = refusal.number();
-    let text = refusal.text(alloc)?;
-    json!(in alloc; {"id": id, "error": {"number": number, "text": text}})
+    let error = error_value(alloc, refusal)?;
+    let members = vec![in alloc; ("id", Value::from(id)), ("error", error)]?;
+    object(alloc, members)
 }
 
 /// What answers a message of this id, or a line of which none can be read.
@@ -261,12 +332,15 @@ pub struct ClientCall {
 fn call_object(alloc: Global, call: &ClientCall) -> Result<Value, AllocError>
     ensures { IfOk result (λ value. view value ≡ written.call_object call.now) }
 {
-    json!(in alloc; {
-        "call": call.number,
-        "tree": call.tree,
-        "interpreter": texts_value(alloc, call.interpreter.as_slice())?,
-        "words": texts_value(alloc, call.words.as_slice())?
-    })
+    let interpreter = texts_value(alloc, call.interpreter.as_slice())?;
+    let words = texts_value(alloc, call.words.as_slice())?;
+    let members = vec![in alloc;
+        ("call", Value::from(call.number)),
+        ("tree", Value::from(call.tree)),
+        ("interpreter", interpreter),
+        ("words", words),
+    ]?;
+    object(alloc, members)
 }
 
 /// The line that calls the client.
