@@ -165,7 +165,10 @@ impl Dict {
             IsPast (write (flat (put self.old key (element_text element)))) }
         ensures unchanged { OnErr result (self.new ≡ self.old) }
     {
-        Rc::make_mut(&mut self.entries)?.set(key, element)
+        match Rc::make_mut(&mut self.entries) {
+            Ok(own) => own.set(key, element),
+            Err(_) => Err(ValueError::Memory),
+        }
     }
 
     /// Gives a key a value: where the key stands, or at the end; in place where the dict isn't
@@ -197,7 +200,10 @@ impl Dict {
     {
         let key = key.key_text(alloc)?;
         let element = value.into_element(alloc)?;
-        Rc::make_mut(&mut self.entries)?.put_any(key, element)
+        match Rc::make_mut(&mut self.entries) {
+            Ok(own) => own.put_any(key, element),
+            Err(e) => Err(e),
+        }
     }
 
     /// Removes a key, if it is there, however long the text of what is left is: in place where the

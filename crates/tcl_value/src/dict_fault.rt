@@ -9,7 +9,7 @@ use tcl_text::text::Text;
 use thiserror::Error;
 
 /// What is at fault in a text that spells no dict.
-#[derive(Debug, Drop, Error, PartialEq)]
+#[derive(Debug, Drop, Error)]
 pub enum DictFault {
     /// The text spells no list (101 to 104).
     #[error(transparent)]
@@ -37,7 +37,7 @@ impl DictFault {
 }
 
 /// Why no dict was read.
-#[derive(Debug, Drop, Error, PartialEq)]
+#[derive(Debug, Drop, Error)]
 pub enum DictError {
     /// Memory ran out.
     #[error("{}", OUT_OF_MEMORY)]

@@ -1,6 +1,6 @@
 //! The elements of lists and the values of dicts.
 ghost use Rattle.std.specs.Prelude.{◌≡◌, ◌≢◌, ◌≤◌, ◌+◌, false, ◌++◌, ◌∷◌, ◌↔◌, [], length, OnOk};
-ghost use Rattle.std.specs.Prelude.{OnErr, IfOk, IsTrue, MatchOption, Bool};
+ghost use Rattle.std.specs.Prelude.{OnErr, IfOk, IfSome, IsTrue, MatchOption, Bool};
 ghost use Rattle.std.specs.Bool.{OnTrue, OnFalse};
 ghost use Rattle.std.specs.String.{string_bytes};
 ghost use Rattle.std.specs.Fmt.{signed_decimal};
@@ -53,7 +53,6 @@ impl Drop for Element {
 }
 
 /// What becomes of the value at the end of a path of keys.
-#[derive(Drop)]
 pub(crate) enum Change {
     /// This one takes its place.
     Value(Element),
@@ -63,6 +62,59 @@ pub(crate) enum Change {
     Text(Text),
     /// Its dict loses this key.
     Without(Text),
+}
+
+impl Drop for Change {
+    fn drop(self) {
+        match self {
+            Change::Value(_value) => {}
+            Change::Elements(_elements) => {}
+            Change::Text(_more) => {}
+            Change::Without(_key) => {}
+        }
+    }
+}
+
+impl Change {
+    /// The value that takes the place, if that is the change.
+    pub(crate) fn into_value(self) -> Option<Element>
+        ensures { IfSome result (λ value. self ≡ Change.Value value) }
+    {
+        match self {
+            Change::Value(value) => Some(value),
+            Change::Elements(_) | Change::Text(_) | Change::Without(_) => None,
+        }
+    }
+
+    /// The elements that are added, if that is the change.
+    fn into_elements(self) -> Option<Vec<Element>>
+        ensures { IfSome result (λ elements. self ≡ Change.Elements elements) }
+    {
+        match self {
+            Change::Elements(elements) => Some(elements),
+            Change::Value(_) | Change::Text(_) | Change::Without(_) => None,
+        }
+    }
+
+    /// The text that is added, if that is the change.
+    fn into_text(self) -> Option<Text>
+        ensures { IfSome result (λ more. self ≡ Change.Text more) }
+    {
+        match self {
+            Change::Text(more) => Some(more),
+            Change::Value(_) | Change::Elements(_) | Change::Without(_) => None,
+        }
+    }
+
+    /// The key that is lost, if that is the change.
+    pub(crate) fn into_key(self) -> Option<Text>
+        ensures { IfSome result (λ key. self ≡ Change.Without key) }
+    {
+        match self {
+            Change::Without(key) => Some(key),
+            Change::Value(_) | Change::Elements(_) | Change::Text(_) => None,
+        }
+    }
 }
 
 impl Element {
@@ -374,7 +426,7 @@ fn extend_by(items: &mut Rc<Items>, change: Change, room: usize) -> bool
     ensures inner { IsInner (write items.new.value) × (2 ≤ length items.new.value) }
     ensures unchanged { OnFalse result (write items.new.value ≡ write items.old.value) }
 {
-    let Change::Elements(elements) = change else {
+    let Some(elements) = change.into_elements() else {
         return false;
     };
     extend_shared(items, elements, room)
@@ -415,7 +467,7 @@ fn append_by(grown: &mut Rc<Measured>, change: Change, room: usize) -> bool
     ensures within { IsWithin grown.new.value }
     ensures unchanged { OnFalse result (grown.new.value ≡ grown.old.value) }
 {
-    let Change::Text(more) = change else {
+    let Some(more) = change.into_text() else {
         return false;
     };
     if more.len() > room {
@@ -527,6 +579,30 @@ pub(crate) fn behind_key<'a>(text: &'a [u8], key: &Text, first: bool) -> Option<
     } else {
         None
     }
+}
+
+/// Writes what stands before an element of a list, the first or another, to the end of a string, or
+/// nothing.
+pub(crate) fn write_space(first: bool, out: &mut String) -> Result<(), AllocError>
+    ensures written { OnOk result (string_bytes out.new ≡ string_bytes out.old ++ space first) }
+    ensures unchanged { OnErr result (string_bytes out.new ≡ string_bytes out.old) }
+{
+    if first {
+        return Ok(());
+    }
+    out.push(' ')
+}
+
+/// Writes a key of a dict, the first or another, and the space behind it to the end of a string, or
+/// a part of that where memory is wanting.
+pub(crate) fn write_key(key: &Text, first: bool, out: &mut String) -> Result<(), AllocError>
+    ensures written { OnOk result (string_bytes out.new
+        ≡ ((string_bytes out.old ++ space first) ++ write_element first key.now) ++ 32 ∷ []) }
+    ensures kept { Extends (string_bytes out.old) (string_bytes out.new) }
+{
+    write_space(first, out)?;
+    write_element(out, key.as_str(), first)?;
+    out.push(' ')
 }
 
 /// Writes a number as an element of a list to the end of a string, or nothing.

@@ -13,13 +13,13 @@ ghost use Rattle.tcl_value.specs.Dicts.{put, without, value_of, put_all, place_o
 ghost use Rattle.tcl_value.specs.Dicts.{entry_dropped};
 ghost use Rattle.tcl_value.specs.Inside.{DictChange, IsChange};
 
-use crate::element::{Change, Element, MOST_DEPTH, behind_key};
+use crate::element::{Change, Element, MOST_DEPTH, behind_key, write_key};
 use crate::items::Items;
 use crate::value::{Value, ValueError};
 use indexmap::IndexSet;
 use std::alloc::{AllocError, Global};
 use std::marker::Model;
-use tcl_text::list::{write_element, written_len};
+use tcl_text::list::written_len;
 use tcl_text::text::Text;
 
 /// The weight of a dict whose text is as long as a value may be: its bytes and one more.
@@ -343,7 +343,7 @@ impl Entries {
         ensures change { OnTrue result (DictChange (key ∷ []) change room self.old self.new) }
         ensures unchanged { OnFalse result (self.new ≡ self.old) }
     {
-        let Change::Value(value) = change else {
+        let Some(value) = change.into_value() else {
             return false;
         };
         self.reads_back();
@@ -370,7 +370,7 @@ impl Entries {
         ensures change { OnTrue result (DictChange [] change room self.old self.new) }
         ensures unchanged { OnFalse result (self.new ≡ self.old) }
     {
-        let Change::Without(key) = change else {
+        let Some(key) = change.into_key() else {
             return false;
         };
         self.reads_back();
@@ -440,7 +440,7 @@ impl Entries {
         let Ok(key) = key.key_text(alloc) else {
             return false;
         };
-        if rest.is_empty() && matches!(change, Change::Value(_)) {
+        if rest.is_empty() && matches!(change, Change::Value(..)) {
             return self.change_key(key, change, room);
         }
         self.change_deeper(alloc, &key, rest, change, room)
@@ -489,12 +489,8 @@ impl Entries {
         ensures kept { Extends (string_bytes out.old) (string_bytes out.new) }
     {
         'entries: for (index, value) in self.values.iter().enumerate() {
-            if index > 0 {
-                out.push(' ')?;
-            }
             let key = self.keys.get_index(index).unwrap();
-            write_element(out, key.as_str(), index == 0)?;
-            out.push(' ')?;
+            write_key(key, index == 0, out)?;
             value.write_to(false, out)?;
         }
         Ok(())

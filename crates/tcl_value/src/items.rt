@@ -11,7 +11,7 @@ ghost use Rattle.tcl_value.specs.Texts.{element_text, texts, flat, IsElement, Is
 ghost use Rattle.tcl_value.specs.Texts.{ends_in_backslash, weight, weight_from};
 ghost use Rattle.tcl_value.specs.Inside.{ListPut};
 
-use crate::element::{Element, MOST_DEPTH};
+use crate::element::{Element, MOST_DEPTH, write_space};
 use crate::entries::Entries;
 use crate::value::ValueError;
 use std::alloc::{AllocError, Global};
@@ -149,9 +149,7 @@ impl Items {
         ensures kept { Extends (string_bytes out.old) (string_bytes out.new) }
     {
         'elements: for (index, element) in self.elements.iter().enumerate() {
-            if index > 0 {
-                out.push(' ')?;
-            }
+            write_space(index == 0, out)?;
             element.write_to(index == 0, out)?;
         }
         Ok(())

@@ -162,7 +162,10 @@ impl List {
             IsPast (write (self.old ++ element_text element ∷ [])) }
         ensures unchanged { OnErr result (self.new ≡ self.old) }
     {
-        Rc::make_mut(&mut self.items)?.push(element)
+        match Rc::make_mut(&mut self.items) {
+            Ok(own) => own.push(element),
+            Err(_) => Err(ValueError::Memory),
+        }
     }
 
     /// Adds elements at the end, all of them or none: in place where the list isn't shared.
@@ -174,7 +177,10 @@ impl List {
             IsPast (write (self.old ++ texts_of elements.items)) }
         ensures unchanged { OnErr result (self.new ≡ self.old) }
     {
-        Rc::make_mut(&mut self.items)?.extend(elements)
+        match Rc::make_mut(&mut self.items) {
+            Ok(own) => own.extend(elements),
+            Err(_) => Err(ValueError::Memory),
+        }
     }
 
     /// Adds an element at the end: in place where the list isn't shared.
@@ -259,7 +265,10 @@ impl List {
         ensures unchanged { OnErr result (self.new ≡ self.old) }
     {
         let element = value.into_element(alloc)?;
-        Rc::make_mut(&mut self.items)?.set(index, element)
+        match Rc::make_mut(&mut self.items) {
+            Ok(own) => own.set(index, element),
+            Err(_) => Err(ValueError::Memory),
+        }
     }
 
     /// Puts an element in the place of another: in place where the list isn't shared.

@@ -37,7 +37,7 @@ pub(crate) fn set_shared(
         return Err(ChangeError::NoElement);
     }
     match Rc::make_mut(items) {
-        Ok(own) => own.set(index, element).map_err(ChangeError::from),
+        Ok(own) => Ok(own.set(index, element)?),
         Err(_) => Err(ChangeError::Memory),
     }
 }
@@ -53,7 +53,7 @@ pub(crate) fn push_shared(items: &mut Rc<Items>, element: Element) -> Result<(),
     ensures unchanged { OnErr result (items.new.value ≡ items.old.value) }
 {
     match Rc::make_mut(items) {
-        Ok(own) => own.push(element).map_err(ChangeError::from),
+        Ok(own) => Ok(own.push(element)?),
         Err(_) => Err(ChangeError::Memory),
     }
 }
@@ -72,7 +72,7 @@ pub(crate) fn extend_shared(
     ensures unchanged { OnErr result (items.new.value ≡ items.old.value) }
 {
     match Rc::make_mut(items) {
-        Ok(own) => own.extend(elements).map_err(ChangeError::from),
+        Ok(own) => Ok(own.extend(elements)?),
         Err(_) => Err(ChangeError::Memory),
     }
 }
@@ -94,7 +94,7 @@ pub(crate) fn put_shared(
     ensures unchanged { OnErr result (entries.new.value ≡ entries.old.value) }
 {
     match Rc::make_mut(entries) {
-        Ok(own) => own.set(key, element).map_err(EntryError::from),
+        Ok(own) => Ok(own.set(key, element)?),
         Err(_) => Err(EntryError::Memory),
     }
 }
@@ -109,7 +109,7 @@ pub(crate) fn remove_shared(entries: &mut Rc<Entries>, key: &Text) -> Result<(),
     ensures unchanged { OnErr result (entries.new.value ≡ entries.old.value) }
 {
     match Rc::make_mut(entries) {
-        Ok(own) => own.remove(key).map_err(EntryError::from),
+        Ok(own) => Ok(own.remove(key)?),
         Err(_) => Err(EntryError::Memory),
     }
 }

@@ -11,5 +11,5 @@ overflow_add-most c =
 
 pub returns-clause-change : goal.returns-clause-change
 returns-clause-change c =
-    key_done c.put.result c.is_ok.result c.args.key c.args.change c.in-Value.value c.self.inside.weight c.args.room (c.self.inside.weight + c.args.room) (flat (pairs c.self.inside.keys.keys (texts c.self.inside.values.items))) c.args.self.now c.put.new.self
-    c.is_ok.ensures.value c.reads_back.ensures c.in-Value.is c.requires.change c.self.invariant.weighs (ap flat c.self.view_is) refl c.put.ensures.put c.put.ensures.light
+    key_done c.put.result c.is_ok.result c.args.key c.args.change c.in-Some.value c.self.inside.weight c.args.room (c.self.inside.weight + c.args.room) (flat (pairs c.self.inside.keys.keys (texts c.self.inside.values.items))) c.args.self.now c.put.new.self
+    c.is_ok.ensures.value c.reads_back.ensures c.in-Some.ensures c.requires.change c.self.invariant.weighs (ap flat c.self.view_is) refl c.put.ensures.put c.put.ensures.light
