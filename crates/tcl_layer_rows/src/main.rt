@@ -2,9 +2,11 @@
 //! expressions; values, lists and dictionaries; variables, completions, hosts and trees.
 #![tactic(auto)]
 
+mod answers;
 mod text_rows;
 mod tree_rows;
 mod value_rows;
+mod words;
 
 use std::io;
 

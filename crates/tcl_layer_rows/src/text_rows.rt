@@ -19,12 +19,12 @@ mod tokens;
 mod trees;
 mod words;
 
-use crate::text_rows::answers::no_call;
+use crate::answers::{Answer, done, no_call};
+use crate::words::{call_of, words_of};
 use row_runner::{World, run};
 use std::alloc::{AllocError, Global};
 use std::io;
 use tcl_text::integer::Integers::{self, Tcl8, Tcl9};
-use tcl_text::list::{ListError, read_list};
 use tcl_text::text::Text;
 
 /// Whose functions the calls of a file name.
@@ -50,13 +50,7 @@ impl Layer {
     }
 
     /// What a verb answers.
-    fn ask(
-        self,
-        alloc: Global,
-        style: Integers,
-        verb: &str,
-        words: &[Text],
-    ) -> Result<String, AllocError> {
+    fn ask(self, alloc: Global, style: Integers, verb: &str, words: &[Text]) -> Answer {
         match self {
             Layer::Texts => texts::answer(alloc, verb, words),
             Layer::Numbers => numbers::answer(alloc, style, verb, words),
@@ -68,20 +62,13 @@ impl Layer {
 }
 
 /// What a call answers in a style of integers.
-fn in_style(
-    alloc: Global,
-    layer: Layer,
-    style: Integers,
-    call: &[Text],
-) -> Result<String, AllocError> {
-    match call {
-        [verb, words @ ..] => layer.ask(alloc, style, verb.as_str(), words),
-        [] => no_call(alloc),
-    }
+fn in_style(alloc: Global, layer: Layer, style: Integers, call: &[Text]) -> Answer {
+    let (verb, words) = call_of(call);
+    layer.ask(alloc, style, verb, words)
 }
 
 /// What a call answers in both styles.
-fn in_both(alloc: Global, layer: Layer, call: &[Text]) -> Result<String, AllocError> {
+fn in_both(alloc: Global, layer: Layer, call: &[Text]) -> Answer {
     let old = in_style(alloc, layer, Tcl8, call)?;
     let new = in_style(alloc, layer, Tcl9, call)?;
     if old.as_str() == new.as_str() {
@@ -91,14 +78,11 @@ fn in_both(alloc: Global, layer: Layer, call: &[Text]) -> Result<String, AllocEr
 }
 
 /// What a call answers in the style that it begins with, or in both.
-fn in_its_styles(alloc: Global, layer: Layer, call: &[Text]) -> Result<String, AllocError> {
-    match call {
-        [first, rest @ ..] => match first.as_str() {
-            "8" => in_style(alloc, layer, Tcl8, rest),
-            "9" => in_style(alloc, layer, Tcl9, rest),
-            _ => in_both(alloc, layer, call),
-        },
-        [] => no_call(alloc),
+fn in_its_styles(alloc: Global, layer: Layer, call: &[Text]) -> Answer {
+    match call_of(call) {
+        ("8", call) => in_style(alloc, layer, Tcl8, call),
+        ("9", call) => in_style(alloc, layer, Tcl9, call),
+        _ => in_both(alloc, layer, call),
     }
 }
 
@@ -143,18 +127,18 @@ impl Caller {
     }
 
     /// Keeps a text.
-    fn keep(&mut self, alloc: Global, count: &Text, parts: &[Text]) -> Result<String, AllocError> {
+    fn keep(&mut self, alloc: Global, count: &Text, parts: &[Text]) -> Answer {
         match (count.as_str().parse::<usize>(), parts) {
             (Ok(count), [open, inside, close]) => {
                 self.kept = nested(alloc, count, open, inside, close)?;
-                String::from_str(alloc, "-")
+                done(alloc)
             }
             _ => no_call(alloc),
         }
     }
 
     /// What a call of these words answers.
-    fn answer_words(&mut self, alloc: Global, words: &[Text]) -> Result<String, AllocError> {
+    fn answer_words(&mut self, alloc: Global, words: &[Text]) -> Answer {
         match words {
             [verb, count, parts @ ..] if verb.as_str() == "keep" => self.keep(alloc, count, parts),
             call => in_its_styles(alloc, self.layer, call),
@@ -168,15 +152,10 @@ impl World for Caller {
         Ok(())
     }
 
-    fn answer(&mut self, alloc: Global, call: &str) -> Result<String, AllocError> {
-        match read_list(alloc, call) {
-            Ok(mut words) => {
-                self.fill_in(&mut words)?;
-                self.answer_words(alloc, words.as_slice())
-            }
-            Err(ListError::Memory) => Err(AllocError),
-            Err(ListError::Fault(_)) => no_call(alloc),
-        }
+    fn answer(&mut self, alloc: Global, call: &str) -> Answer {
+        let mut words = words_of(alloc, call)?;
+        self.fill_in(&mut words)?;
+        self.answer_words(alloc, &words)
     }
 }
 

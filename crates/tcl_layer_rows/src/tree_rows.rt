@@ -1,5 +1,4 @@
 //! Rows of variables, completions, hosts and trees of interpreters.
-mod answers;
 mod chains;
 mod completions;
 mod hosts;
@@ -9,7 +8,6 @@ mod paths;
 mod places;
 mod trees;
 mod variables;
-mod words;
 
 use crate::tree_rows::chains::Chains;
 use crate::tree_rows::completions::Completions;

@@ -1,38 +1,59 @@
-//! How answers are written.
+//! How errors, truth values and the elements of lists are written.
+use crate::answers::{Answer, Told};
 use std::alloc::{AllocError, Global};
-use tcl_text::integer::write_int;
-use tcl_text::list::{ListError, read_list};
+use tcl_text::list::ListError;
 use tcl_text::text::Text;
-use tcl_words::answer::Answer;
+use tcl_words::answer::Answer as Given;
 use tcl_words::refusal::Refusal;
 
-/// The answer to a call that isn't known.
-pub(crate) fn no_call(alloc: Global) -> Result<String, AllocError> {
-    String::from_str(alloc, "no call")
+impl Told for ListError {
+    fn told(self, alloc: Global) -> Answer {
+        match self {
+            ListError::Fault(fault) => fault.message(alloc).told(alloc),
+            ListError::Memory => Err(AllocError),
+        }
+    }
+}
+
+impl Told for Refusal {
+    fn told(self, alloc: Global) -> Answer {
+        match self {
+            Refusal::Fault(text) => text.told(alloc),
+            Refusal::Memory => Err(AllocError),
+        }
+    }
+}
+
+impl Told for Given {
+    fn told(self, alloc: Global) -> Answer {
+        match self {
+            Given::Text(text) => text.told(alloc),
+            Given::Number(number) => format!(in alloc; "number {number}"),
+        }
+    }
 }
 
 /// Whether something is so.
-pub(crate) fn whether(alloc: Global, holds: bool) -> Result<String, AllocError> {
+pub(crate) fn whether(alloc: Global, holds: bool) -> Answer {
     String::from_str(alloc, if holds { "true" } else { "false" })
 }
 
-/// A text.
-pub(crate) fn text(alloc: Global, text: &Text) -> Result<String, AllocError> {
-    String::from_str(alloc, text.as_str())
+/// An error.
+pub(crate) fn error<E: Told>(alloc: Global, error: E) -> Answer {
+    let message = error.told(alloc)?;
+    format!(in alloc; "error: {message}")
 }
 
-/// A text behind the word that tells what it is.
-fn behind(alloc: Global, word: &str, text: &str) -> Result<String, AllocError> {
-    format!(in alloc; "{word} {text}")
-}
-
-/// The text of an error.
-pub(crate) fn error(alloc: Global, message: &Text) -> Result<String, AllocError> {
-    behind(alloc, "error:", message.as_str())
+/// What comes of a call, or its error.
+pub(crate) fn outcome<T: Told, E: Told>(alloc: Global, outcome: Result<T, E>) -> Answer {
+    match outcome {
+        Ok(found) => found.told(alloc),
+        Err(fault) => error(alloc, fault),
+    }
 }
 
 /// A list, each element of it in angle brackets.
-pub(crate) fn elements(alloc: Global, list: &[Text]) -> Result<String, AllocError> {
+fn elements(alloc: Global, list: &[Text]) -> Answer {
     let mut written = String::new(alloc);
     'elements: for element in list {
         written.push_str("<")?;
@@ -42,28 +63,10 @@ pub(crate) fn elements(alloc: Global, list: &[Text]) -> Result<String, AllocErro
     Ok(written)
 }
 
-/// A text read as a list.
-pub(crate) fn list(alloc: Global, text: &str) -> Result<String, AllocError> {
-    match read_list(alloc, text) {
-        Ok(list) => elements(alloc, list.as_slice()),
-        Err(ListError::Memory) => Err(AllocError),
-        Err(ListError::Fault(fault)) => error(alloc, &fault.message(alloc)?),
-    }
-}
-
-/// A refusal.
-pub(crate) fn refusal(alloc: Global, refusal: Refusal) -> Result<String, AllocError> {
-    match refusal {
-        Refusal::Fault(text) => error(alloc, &text),
-        Refusal::Memory => Err(AllocError),
-    }
-}
-
-/// What a command answers.
-pub(crate) fn answer(alloc: Global, answer: Result<Answer, Refusal>) -> Result<String, AllocError> {
-    match answer {
-        Ok(Answer::Text(given)) => text(alloc, &given),
-        Ok(Answer::Number(number)) => behind(alloc, "number", write_int(alloc, number)?.as_str()),
-        Err(refused) => refusal(alloc, refused),
+/// The elements of a list that is read, or why there is none.
+pub(crate) fn listed<E: Told>(alloc: Global, read: Result<Vec<Text>, E>) -> Answer {
+    match read {
+        Ok(list) => elements(alloc, &list),
+        Err(fault) => error(alloc, fault),
     }
 }

@@ -1,14 +1,13 @@
 //! What expressions compute. Behind a bar stands what they asked for. The values of `$s`, `$i` and
 //! `$z` are 7, 3 and 0, and that of any other part is a text which is no number.
-use crate::text_rows::answers::text as show;
-use crate::text_rows::trees::parts_of;
+use crate::answers::{Answer, Told};
+use crate::text_rows::trees::{no_tree, parts_of};
+use crate::words::value_of as value_of_text;
 use std::alloc::{AllocError, Global};
-use tcl_expr::fault::ExprError;
 use tcl_expr::parser::parse_expr;
 use tcl_expr::tree::ExprTree;
 use tcl_expression_evaluation::evaluation::{Evaluation, Progress};
 use tcl_expression_evaluation::result::final_value;
-use tcl_operators::fault::ApplyError;
 use tcl_prepared::operand::Operand;
 use tcl_prepared::prepared::{PreparedPart, PreparedWord};
 use tcl_text::integer::Integers;
@@ -38,14 +37,6 @@ fn push_asked(alloc: Global, asked: &mut String, operand: &Operand) -> Result<()
     asked.push_str(";")
 }
 
-/// A text that is no number.
-fn no_number(alloc: Global) -> Result<Value, AllocError> {
-    match Value::from_text(Text::new(alloc, "text")?) {
-        Ok(value) => Ok(value),
-        Err(_) => Err(AllocError),
-    }
-}
-
 /// The value of what is asked for.
 fn value_of(alloc: Global, operand: &Operand) -> Result<Value, AllocError> {
     let Some(name) = operand.variable() else {
@@ -55,7 +46,7 @@ fn value_of(alloc: Global, operand: &Operand) -> Result<Value, AllocError> {
         "s" => Ok(Value::from_int(7)),
         "i" => Ok(Value::from_int(3)),
         "z" => Ok(Value::from_int(0)),
-        _ => no_number(alloc),
+        _ => value_of_text(&Text::new(alloc, "text")?),
     }
 }
 
@@ -70,12 +61,13 @@ fn supply(
     evaluation.supply(value_of(alloc, operand)?)
 }
 
-/// The text of a value, once it is settled.
-fn settled(alloc: Global, value: Value, style: Integers) -> Result<String, AllocError> {
-    match final_value(value, style) {
-        Ok(value) => show(alloc, &value.text(alloc)?),
-        Err(fault) => show(alloc, &fault.message(alloc)?),
+/// A result with what was asked for behind a bar.
+fn with_asked(mut found: String, asked: &str) -> Answer {
+    if !asked.is_empty() {
+        found.push_str("|")?;
+        found.push_str(asked)?;
     }
+    Ok(found)
 }
 
 /// Goes on with an evaluation, and gives its result when it has come to its end.
@@ -91,39 +83,29 @@ fn go_on(
             supply(alloc, evaluation, operand, asked)?;
             Ok(None)
         }
-        Ok(Progress::Done(value)) => Ok(Some(settled(alloc, value, style)?)),
-        Err(ApplyError::Memory) => Err(AllocError),
-        Err(ApplyError::Fault(fault)) => Ok(Some(show(alloc, &fault.message(alloc)?)?)),
+        Ok(Progress::Done(value)) => Ok(Some(final_value(value, style).told(alloc)?)),
+        Err(fault) => Ok(Some(fault.told(alloc)?)),
     }
 }
 
-/// What an evaluation comes to.
+/// What an evaluation comes to, and behind it what it asked for.
 fn computed(
     alloc: Global,
     evaluation: &mut Evaluation,
     tree: &ExprTree,
     style: Integers,
-) -> Result<String, AllocError> {
+) -> Answer {
     let mut asked = String::new(alloc);
     'parts: for _ in 0..1000 {
-        if let Some(mut result) = go_on(alloc, evaluation, tree, style, &mut asked)? {
-            if !asked.is_empty() {
-                result.push_str("|")?;
-                result.push_str(asked.as_str())?;
-            }
-            return Ok(result);
+        if let Some(result) = go_on(alloc, evaluation, tree, style, &mut asked)? {
+            return with_asked(result, asked.as_str());
         }
     }
     String::from_str(alloc, "no end")
 }
 
 /// What a tree computes: at once, or once more when it has been computed.
-fn evaluated(
-    alloc: Global,
-    tree: &ExprTree,
-    style: Integers,
-    again: bool,
-) -> Result<String, AllocError> {
+fn evaluated(alloc: Global, tree: &ExprTree, style: Integers, again: bool) -> Answer {
     let mut evaluation = Evaluation::new(alloc);
     if again {
         let _first = computed(alloc, &mut evaluation, tree, style)?;
@@ -134,15 +116,9 @@ fn evaluated(
 
 /// What an expression computes, or what is told of its fault; where it is asked again, what it
 /// computes the second time.
-pub(crate) fn result(
-    alloc: Global,
-    text: &str,
-    style: Integers,
-    again: bool,
-) -> Result<String, AllocError> {
+pub(crate) fn result(alloc: Global, text: &str, style: Integers, again: bool) -> Answer {
     match parse_expr(alloc, text, style) {
         Ok(tree) => evaluated(alloc, &tree, style, again),
-        Err(ExprError::Memory) => Err(AllocError),
-        Err(ExprError::Fault(fault)) => show(alloc, &fault.message(alloc, text)?),
+        Err(error) => no_tree(alloc, text, error),
     }
 }

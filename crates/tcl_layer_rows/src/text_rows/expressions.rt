@@ -1,12 +1,12 @@
 //! Expressions: their tokens, their trees, their operators and what they compute.
-use crate::text_rows::answers::no_call;
+use crate::answers::{Answer, no_call};
 use crate::text_rows::{evaluation, operators, tokens, trees};
-use std::alloc::{AllocError, Global};
+use std::alloc::Global;
 use tcl_text::integer::Integers;
 use tcl_text::text::Text;
 
 /// What a verb answers to an expression.
-fn of_text(alloc: Global, style: Integers, verb: &str, text: &str) -> Result<String, AllocError> {
+fn of_text(alloc: Global, style: Integers, verb: &str, text: &str) -> Answer {
     match verb {
         "token" => tokens::first(alloc, text, false, style),
         "token_behind_minus" => tokens::first(alloc, text, true, style),
@@ -19,12 +19,7 @@ fn of_text(alloc: Global, style: Integers, verb: &str, text: &str) -> Result<Str
 }
 
 /// What a verb answers.
-pub(crate) fn answer(
-    alloc: Global,
-    style: Integers,
-    verb: &str,
-    words: &[Text],
-) -> Result<String, AllocError> {
+pub(crate) fn answer(alloc: Global, style: Integers, verb: &str, words: &[Text]) -> Answer {
     match (verb, words) {
         ("message", [fault, text]) => tokens::message(alloc, fault.as_str(), text.as_str()),
         ("apply", [symbol, operands @ ..]) => operators::apply(

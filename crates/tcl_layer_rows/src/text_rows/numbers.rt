@@ -1,6 +1,7 @@
 //! Numbers: integers, truth values, indexes and the operators of whole numbers.
-use crate::text_rows::answers::{no_call, text, whether};
-use std::alloc::{AllocError, Global};
+use crate::answers::{Answer, Told, named, no_call};
+use crate::text_rows::answers::whether;
+use std::alloc::Global;
 use tcl_arithmetic::{
     ArithmeticFault, absolute, bitwise_and, bitwise_or, bitwise_xor, complement, difference,
     negation, power_of, product, quotient, remainder, shift_left, shift_right, sum,
@@ -12,16 +13,8 @@ use tcl_text::integer::{
 };
 use tcl_text::text::Text;
 
-/// The integer of a text.
-fn integer(alloc: Global, style: Integers, text: &str) -> Result<String, AllocError> {
-    match read_int(text, style) {
-        Ok(number) => write_int(alloc, number),
-        Err(fault) => format!(in alloc; "{fault:?}"),
-    }
-}
-
 /// The truth value of a text.
-fn boolean(alloc: Global, style: Integers, text: &str) -> Result<String, AllocError> {
+fn boolean(alloc: Global, style: Integers, text: &str) -> Answer {
     match read_bool(text, style) {
         Ok(truth) => whether(alloc, truth),
         Err(fault) => format!(in alloc; "{fault:?}"),
@@ -29,7 +22,7 @@ fn boolean(alloc: Global, style: Integers, text: &str) -> Result<String, AllocEr
 }
 
 /// Where an index points, where `end` is this place.
-fn index(alloc: Global, style: Integers, end: i64, text: &str) -> Result<String, AllocError> {
+fn index(alloc: Global, style: Integers, end: i64, text: &str) -> Answer {
     match read_index(text, style, end) {
         Ok(index) => format!(in alloc; "{index:?}"),
         Err(fault) => format!(in alloc; "{fault:?}"),
@@ -37,37 +30,22 @@ fn index(alloc: Global, style: Integers, end: i64, text: &str) -> Result<String,
 }
 
 /// What a verb answers to a text.
-fn of_text(alloc: Global, style: Integers, verb: &str, word: &str) -> Result<String, AllocError> {
+fn of_text(alloc: Global, style: Integers, verb: &str, word: &str) -> Answer {
     match verb {
-        "integer" => integer(alloc, style, word),
+        "integer" => named(alloc, read_int(word, style)),
         "boolean" => boolean(alloc, style, word),
-        "not_integer" => text(alloc, &not_integer_message(alloc, word)?),
-        "not_boolean" => text(alloc, &not_boolean_message(alloc, word)?),
-        "bad_index" => text(alloc, &bad_index_message(alloc, word)?),
+        "not_integer" => not_integer_message(alloc, word).told(alloc),
+        "not_boolean" => not_boolean_message(alloc, word).told(alloc),
+        "bad_index" => bad_index_message(alloc, word).told(alloc),
         _ => no_call(alloc),
     }
 }
 
 /// A text with a number behind it.
-fn with_number(alloc: Global, front: &str, number: i64) -> Result<String, AllocError> {
+fn with_number(alloc: Global, front: &str, number: i64) -> Answer {
     let mut written = String::from_str(alloc, front)?;
     push_int(&mut written, number)?;
     Ok(written)
-}
-
-/// What a verb answers to a text and a number.
-fn of_text_and_number(
-    alloc: Global,
-    style: Integers,
-    verb: &str,
-    word: &str,
-    number: i64,
-) -> Result<String, AllocError> {
-    match verb {
-        "index" => index(alloc, style, number, word),
-        "push_int" => with_number(alloc, word, number),
-        _ => no_call(alloc),
-    }
 }
 
 /// What an operator makes of a number.
@@ -115,33 +93,23 @@ fn computed(operator: &str, words: &[Text]) -> Option<Result<i64, ArithmeticFaul
 }
 
 /// What a verb answers that isn't an operator.
-fn of_texts(
-    alloc: Global,
-    style: Integers,
-    verb: &str,
-    words: &[Text],
-) -> Result<String, AllocError> {
+fn of_texts(alloc: Global, style: Integers, verb: &str, words: &[Text]) -> Answer {
     match words {
-        [] => text(alloc, &too_large_message(alloc)?),
+        [] => too_large_message(alloc).told(alloc),
         [word] => of_text(alloc, style, verb, word.as_str()),
-        [word, second] => match number(second) {
-            Some(number) => of_text_and_number(alloc, style, verb, word.as_str(), number),
-            None => no_call(alloc),
+        [word, second] => match (verb, number(second)) {
+            ("index", Some(end)) => index(alloc, style, end, word.as_str()),
+            ("push_int", Some(number)) => with_number(alloc, word.as_str(), number),
+            _ => no_call(alloc),
         },
         _ => no_call(alloc),
     }
 }
 
 /// What a verb answers.
-pub(crate) fn answer(
-    alloc: Global,
-    style: Integers,
-    verb: &str,
-    words: &[Text],
-) -> Result<String, AllocError> {
+pub(crate) fn answer(alloc: Global, style: Integers, verb: &str, words: &[Text]) -> Answer {
     match computed(verb, words) {
-        Some(Ok(number)) => write_int(alloc, number),
-        Some(Err(fault)) => format!(in alloc; "{fault:?}"),
+        Some(computed) => named(alloc, computed),
         None => of_texts(alloc, style, verb, words),
     }
 }

@@ -1,6 +1,8 @@
 //! Operators and functions applied to values that are at hand. An operator or a function is named
 //! as it is written, and `truth` is whether a text is true.
-use crate::text_rows::answers::{no_call, text as show, whether};
+use crate::answers::{Answer, Told, no_call};
+use crate::text_rows::answers::whether;
+use crate::words::value_of;
 use std::alloc::{AllocError, Global};
 use tcl_expr::operator::{BinaryOperator, Function, UnaryOperator};
 use tcl_operators::apply::{apply_binary, apply_func, apply_unary, truth_of};
@@ -39,32 +41,26 @@ fn choice(symbol: &str) -> Option<Function> {
     }
 }
 
-/// A value of a text.
-fn value(text: &Text) -> Result<Value, AllocError> {
-    match Value::from_text(text.clone()?) {
-        Ok(value) => Ok(value),
-        Err(_) => Err(AllocError),
+/// What is told of an operator that has no result.
+impl Told for ApplyError {
+    fn told(self, alloc: Global) -> Answer {
+        match self {
+            ApplyError::Fault(fault) => fault.told(alloc),
+            ApplyError::Memory => Err(AllocError),
+        }
     }
 }
 
-/// The text of a result, or what is told of its fault.
-fn outcome(alloc: Global, outcome: Result<Value, ApplyError>) -> Result<String, AllocError> {
-    match outcome {
-        Ok(value) => show(alloc, &value.text(alloc)?),
-        Err(ApplyError::Memory) => Err(AllocError),
-        Err(ApplyError::Fault(fault)) => show(alloc, &fault.message(alloc)?),
+impl Told for OperatorFault {
+    fn told(self, alloc: Global) -> Answer {
+        self.message(alloc).told(alloc)
     }
 }
 
 /// What an operator makes of the operand behind it.
-fn before(
-    alloc: Global,
-    style: Integers,
-    operator: UnaryOperator,
-    operand: &Text,
-) -> Result<String, AllocError> {
-    let mut operand = value(operand)?;
-    outcome(alloc, apply_unary(alloc, operator, &mut operand, style))
+fn before(alloc: Global, style: Integers, operator: UnaryOperator, operand: &Text) -> Answer {
+    let mut operand = value_of(operand)?;
+    apply_unary(alloc, operator, &mut operand, style).told(alloc)
 }
 
 /// What an operator makes of the operands on both sides.
@@ -74,20 +70,16 @@ fn between(
     operator: BinaryOperator,
     left: &Text,
     right: &Text,
-) -> Result<String, AllocError> {
-    let mut left = value(left)?;
-    let mut right = value(right)?;
-    outcome(
-        alloc,
-        apply_binary(alloc, operator, &mut left, &mut right, style),
-    )
+) -> Answer {
+    let mut left = value_of(left)?;
+    let mut right = value_of(right)?;
+    apply_binary(alloc, operator, &mut left, &mut right, style).told(alloc)
 }
 
 /// What the function of a number's size makes of an operand.
-fn size(alloc: Global, style: Integers, operand: &Text) -> Result<String, AllocError> {
-    let mut operands = [value(operand)?];
-    let size = apply_func(Function::Absolute, &mut operands, style);
-    outcome(alloc, size.map_err(ApplyError::Fault))
+fn size(alloc: Global, style: Integers, operand: &Text) -> Answer {
+    let mut operands = [value_of(operand)?];
+    apply_func(Function::Absolute, &mut operands, style).told(alloc)
 }
 
 /// What a function that chooses makes of three operands.
@@ -96,31 +88,27 @@ fn chosen(
     style: Integers,
     function: Function,
     texts: (&Text, &Text, &Text),
-) -> Result<String, AllocError> {
-    let mut operands = [value(texts.0)?, value(texts.1)?, value(texts.2)?];
-    let chosen = match function {
-        Function::Absolute => Err(OperatorFault::TooLarge),
-        Function::Least | Function::Greatest => apply_func(function, &mut operands, style),
-    };
-    outcome(alloc, chosen.map_err(ApplyError::Fault))
+) -> Answer {
+    let mut operands = [value_of(texts.0)?, value_of(texts.1)?, value_of(texts.2)?];
+    match function {
+        Function::Absolute => no_call(alloc),
+        Function::Least | Function::Greatest => {
+            apply_func(function, &mut operands, style).told(alloc)
+        }
+    }
 }
 
 /// Whether a text is true.
-fn truth(alloc: Global, style: Integers, text: &Text) -> Result<String, AllocError> {
-    let mut value = value(text)?;
+fn truth(alloc: Global, style: Integers, text: &Text) -> Answer {
+    let mut value = value_of(text)?;
     match truth_of(alloc, &mut value, style) {
         Ok(truth) => whether(alloc, truth),
-        Err(fault) => outcome(alloc, Err(fault)),
+        Err(fault) => fault.told(alloc),
     }
 }
 
 /// What is made of one operand.
-fn of_one(
-    alloc: Global,
-    style: Integers,
-    symbol: &str,
-    operand: &Text,
-) -> Result<String, AllocError> {
+fn of_one(alloc: Global, style: Integers, symbol: &str, operand: &Text) -> Answer {
     match (unary(symbol), symbol) {
         (Some(operator), _) => before(alloc, style, operator, operand),
         (None, "abs") => size(alloc, style, operand),
@@ -130,12 +118,7 @@ fn of_one(
 }
 
 /// What an operator or a function makes of its operands.
-pub(crate) fn apply(
-    alloc: Global,
-    style: Integers,
-    symbol: &str,
-    operands: &[Text],
-) -> Result<String, AllocError> {
+pub(crate) fn apply(alloc: Global, style: Integers, symbol: &str, operands: &[Text]) -> Answer {
     match operands {
         [operand] => of_one(alloc, style, symbol, operand),
         [left, right] => match binary(symbol) {

@@ -1,6 +1,7 @@
 //! The functions of strings, and how specifiers of a format are read. A verb that ends in `_nocase`
 //! is that of a call without the case of letters.
-use crate::text_rows::answers::{answer as show, no_call, whether};
+use crate::answers::{Answer, Told, no_call};
+use crate::text_rows::answers::whether;
 use std::alloc::{AllocError, Global};
 use std::cmp::Ordering;
 use tcl_characters::classes::{Class, all_members};
@@ -30,16 +31,21 @@ fn class(name: &str) -> Option<Class> {
     }
 }
 
-/// A place.
-fn placed(alloc: Global, place: Option<usize>) -> Result<String, AllocError> {
+/// How many there are, or at which place.
+fn counted(alloc: Global, count: usize) -> Answer {
+    count_answer(alloc, count).told(alloc)
+}
+
+/// A place, or `none`.
+fn placed(alloc: Global, place: Option<usize>) -> Answer {
     match place {
-        Some(place) => show(alloc, count_answer(alloc, place)),
+        Some(place) => counted(alloc, place),
         None => String::from_str(alloc, "none"),
     }
 }
 
 /// An order.
-fn ordered(alloc: Global, order: Ordering) -> Result<String, AllocError> {
+fn ordered(alloc: Global, order: Ordering) -> Answer {
     String::from_str(
         alloc,
         match order {
@@ -51,7 +57,7 @@ fn ordered(alloc: Global, order: Ordering) -> Result<String, AllocError> {
 }
 
 /// Whether all characters of a text are in a class.
-fn members(alloc: Global, name: &str, text: &str) -> Result<String, AllocError> {
+fn members(alloc: Global, name: &str, text: &str) -> Answer {
     match class(name) {
         Some(class) => whether(alloc, all_members(class, text)),
         None => no_call(alloc),
@@ -59,7 +65,7 @@ fn members(alloc: Global, name: &str, text: &str) -> Result<String, AllocError> 
 }
 
 /// A text, where it isn't too long.
-fn limited(alloc: Global, made: Result<String, LimitError>) -> Result<String, AllocError> {
+fn limited(alloc: Global, made: Result<String, LimitError>) -> Answer {
     match made {
         Ok(text) => Ok(text),
         Err(LimitError::TooLong) => String::from_str(alloc, "too long"),
@@ -68,7 +74,7 @@ fn limited(alloc: Global, made: Result<String, LimitError>) -> Result<String, Al
 }
 
 /// A text so many times.
-fn repeated(alloc: Global, text: &str, count: usize) -> Result<String, AllocError> {
+fn repeated(alloc: Global, text: &str, count: usize) -> Answer {
     if count > MOST_BYTES || text.len() > MOST_BYTES {
         return no_call(alloc);
     }
@@ -76,15 +82,15 @@ fn repeated(alloc: Global, text: &str, count: usize) -> Result<String, AllocErro
 }
 
 /// A specifier, and what follows it.
-fn specifier(alloc: Global, text: &str) -> Result<String, AllocError> {
+fn specifier(alloc: Global, text: &str) -> Answer {
     let (read, rest) = read_specifier(text);
     format!(in alloc; "{read:?} <{rest}>")
 }
 
 /// What a verb gives of a text.
-fn of_text(alloc: Global, verb: &str, text: &str) -> Result<String, AllocError> {
+fn of_text(alloc: Global, verb: &str, text: &str) -> Answer {
     match verb {
-        "character_count" => placed(alloc, Some(character_count(text))),
+        "character_count" => counted(alloc, character_count(text)),
         "reverse" => reverse(alloc, text),
         "to_lower" => to_lower(alloc, text),
         "to_upper" => to_upper(alloc, text),
@@ -96,7 +102,7 @@ fn of_text(alloc: Global, verb: &str, text: &str) -> Result<String, AllocError> 
 }
 
 /// What a verb tells of two texts.
-fn of_two(alloc: Global, verb: &str, one: &str, two: &str) -> Result<String, AllocError> {
+fn of_two(alloc: Global, verb: &str, one: &str, two: &str) -> Answer {
     match verb {
         "compare" => ordered(alloc, compare(one, two, false)),
         "compare_nocase" => ordered(alloc, compare(one, two, true)),
@@ -110,7 +116,7 @@ fn of_two(alloc: Global, verb: &str, one: &str, two: &str) -> Result<String, All
 }
 
 /// What a verb gives of a text and a number.
-fn of_count(alloc: Global, verb: &str, text: &str, count: usize) -> Result<String, AllocError> {
+fn of_count(alloc: Global, verb: &str, text: &str, count: usize) -> Answer {
     match verb {
         "before" => String::from_str(alloc, before(text, count)),
         "from" => String::from_str(alloc, from(text, count)),
@@ -119,13 +125,7 @@ fn of_count(alloc: Global, verb: &str, text: &str, count: usize) -> Result<Strin
 }
 
 /// What a verb gives of two texts and a number.
-fn of_two_and_count(
-    alloc: Global,
-    verb: &str,
-    one: &str,
-    two: &str,
-    count: usize,
-) -> Result<String, AllocError> {
+fn of_two_and_count(alloc: Global, verb: &str, one: &str, two: &str, count: usize) -> Answer {
     match verb {
         "first_place" => placed(alloc, first_place(one, two, count)),
         "last_place" => placed(alloc, last_place(one, two, count)),
@@ -138,7 +138,7 @@ fn of_two_and_count(
 }
 
 /// What a verb gives of texts, the last of which may be a number.
-fn of_few(alloc: Global, verb: &str, words: &[Text]) -> Result<String, AllocError> {
+fn of_few(alloc: Global, verb: &str, words: &[Text]) -> Answer {
     match words {
         [text] => of_text(alloc, verb, text.as_str()),
         [one, two] => match (verb, two.as_str().parse::<usize>()) {
@@ -154,7 +154,7 @@ fn of_few(alloc: Global, verb: &str, words: &[Text]) -> Result<String, AllocErro
 }
 
 /// What the mapping behind a text makes of it.
-fn mapped(alloc: Global, words: &[Text], nocase: bool) -> Result<String, AllocError> {
+fn mapped(alloc: Global, words: &[Text], nocase: bool) -> Answer {
     match words {
         [text, mapping @ ..] => limited(alloc, map(alloc, mapping, text.as_str(), nocase)),
         [] => no_call(alloc),
@@ -162,7 +162,7 @@ fn mapped(alloc: Global, words: &[Text], nocase: bool) -> Result<String, AllocEr
 }
 
 /// What a verb answers.
-pub(crate) fn answer(alloc: Global, verb: &str, words: &[Text]) -> Result<String, AllocError> {
+pub(crate) fn answer(alloc: Global, verb: &str, words: &[Text]) -> Answer {
     match verb {
         "join" => limited(alloc, join(alloc, words)),
         "map" => mapped(alloc, words, false),

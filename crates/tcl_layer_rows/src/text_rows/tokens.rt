@@ -1,8 +1,8 @@
 //! The tokens that expressions begin with.
-use crate::text_rows::answers::{no_call, text as show};
-use crate::text_rows::trees::parts_of;
+use crate::answers::{Answer, Told, no_call};
+use crate::text_rows::trees::{no_tree, parts_of};
 use std::alloc::{AllocError, Global};
-use tcl_expr::fault::{ExprError, ExprFault};
+use tcl_expr::fault::ExprFault;
 use tcl_expr::lexer::{Lexed, next_token};
 use tcl_expr::operator::{BinaryOperator, Function, UnaryOperator};
 use tcl_expr::token::{Leaf, Token};
@@ -94,7 +94,7 @@ fn push_token(alloc: Global, out: &mut String, token: &Token) -> Result<(), Allo
 }
 
 /// A token and what follows it.
-fn token_and_rest(alloc: Global, token: &Token, rest: &str) -> Result<String, AllocError> {
+fn token_and_rest(alloc: Global, token: &Token, rest: &str) -> Answer {
     let mut out = String::new(alloc);
     push_token(alloc, &mut out, token)?;
     if !rest.is_empty() {
@@ -105,20 +105,14 @@ fn token_and_rest(alloc: Global, token: &Token, rest: &str) -> Result<String, Al
 }
 
 /// What an expression begins with, behind a minus or not.
-pub(crate) fn first(
-    alloc: Global,
-    text: &str,
-    minus: bool,
-    style: Integers,
-) -> Result<String, AllocError> {
+pub(crate) fn first(alloc: Global, text: &str, minus: bool, style: Integers) -> Answer {
     if text.len() > MOST_BYTES {
         return no_call(alloc);
     }
     match next_token(alloc, text, minus, style) {
         Ok(Lexed::Ended) => String::from_str(alloc, "end"),
         Ok(Lexed::Read(token, rest)) => token_and_rest(alloc, &token, rest),
-        Err(ExprError::Memory) => Err(AllocError),
-        Err(ExprError::Fault(fault)) => show(alloc, &fault.message(alloc, text)?),
+        Err(error) => no_tree(alloc, text, error),
     }
 }
 
@@ -149,9 +143,9 @@ fn fault_named(name: &str) -> Option<ExprFault> {
 }
 
 /// What is told of a fault of an expression.
-pub(crate) fn message(alloc: Global, fault: &str, text: &str) -> Result<String, AllocError> {
+pub(crate) fn message(alloc: Global, fault: &str, text: &str) -> Answer {
     match fault_named(fault) {
-        Some(fault) => show(alloc, &fault.message(alloc, text)?),
+        Some(fault) => fault.message(alloc, text).told(alloc),
         None => no_call(alloc),
     }
 }

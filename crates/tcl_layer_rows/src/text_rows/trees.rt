@@ -1,5 +1,5 @@
 //! What is kept of expressions.
-use crate::text_rows::answers::text as show;
+use crate::answers::{Answer, Told};
 use std::alloc::{AllocError, Global};
 use std::slice;
 use tcl_expr::fault::ExprError;
@@ -60,7 +60,7 @@ fn push_node(alloc: Global, out: &mut String, node: &Node) -> Result<(), AllocEr
 }
 
 /// The steps of a tree.
-fn steps_of(alloc: Global, tree: &ExprTree) -> Result<String, AllocError> {
+fn steps_of(alloc: Global, tree: &ExprTree) -> Answer {
     let mut out = String::new(alloc);
     'nodes: for node in &tree.nodes {
         push_node(alloc, &mut out, node)?;
@@ -68,17 +68,24 @@ fn steps_of(alloc: Global, tree: &ExprTree) -> Result<String, AllocError> {
     Ok(out)
 }
 
+/// What is told of the fault of a text, which is no expression.
+pub(crate) fn no_tree(alloc: Global, text: &str, error: ExprError) -> Answer {
+    match error {
+        ExprError::Fault(fault) => fault.message(alloc, text).told(alloc),
+        ExprError::Memory => Err(AllocError),
+    }
+}
+
 /// The steps that are kept of a text, or what is told of its fault.
-pub(crate) fn steps(alloc: Global, text: &str, style: Integers) -> Result<String, AllocError> {
+pub(crate) fn steps(alloc: Global, text: &str, style: Integers) -> Answer {
     match parse_expr(alloc, text, style) {
         Ok(tree) => steps_of(alloc, &tree),
-        Err(ExprError::Memory) => Err(AllocError),
-        Err(ExprError::Fault(fault)) => show(alloc, &fault.message(alloc, text)?),
+        Err(error) => no_tree(alloc, text, error),
     }
 }
 
 /// Which fault a text has.
-pub(crate) fn fault(alloc: Global, text: &str, style: Integers) -> Result<String, AllocError> {
+pub(crate) fn fault(alloc: Global, text: &str, style: Integers) -> Answer {
     match parse_expr(alloc, text, style) {
         Ok(_) => String::from_str(alloc, "none"),
         Err(ExprError::Memory) => Err(AllocError),

@@ -1,10 +1,11 @@
 //! The words of commands: reading them, refusing them, and answering.
-use crate::text_rows::answers::{answer as show, elements, no_call, refusal};
-use std::alloc::{AllocError, Global};
+use crate::answers::{Answer, no_call};
+use crate::text_rows::answers::{error, listed, outcome};
+use std::alloc::Global;
 use tcl_text::integer::Integers;
 use tcl_text::limit::MOST_BYTES;
 use tcl_text::text::Text;
-use tcl_words::answer::Answer;
+use tcl_words::answer::Answer::Number;
 use tcl_words::arguments::{
     one_or_two_words, one_word, three_or_four_words, three_words, two_or_three_words, two_words,
 };
@@ -48,52 +49,28 @@ fn last_read<'a>(alloc: Global, verb: &str, words: &'a [Text]) -> &'a str {
     }
 }
 
-/// The integer that a word says.
-fn integer(alloc: Global, style: Integers, word: &str) -> Result<String, AllocError> {
-    match integer_word(alloc, style, word) {
-        Ok(number) => show(alloc, Ok(Answer::Number(number))),
-        Err(refused) => refusal(alloc, refused),
-    }
-}
-
-/// The list that a word says.
-fn list(alloc: Global, word: &str) -> Result<String, AllocError> {
-    match list_word(alloc, word) {
-        Ok(list) => elements(alloc, list.as_slice()),
-        Err(refused) => refusal(alloc, refused),
-    }
-}
-
 /// The place that a word says among so many.
-fn index(alloc: Global, style: Integers, count: usize, word: &str) -> Result<String, AllocError> {
+fn index(alloc: Global, style: Integers, count: usize, word: &str) -> Answer {
     if count > MOST_BYTES {
         return no_call(alloc);
     }
     match index_word(alloc, style, count, word) {
         Ok(index) => format!(in alloc; "{index:?}"),
-        Err(refused) => refusal(alloc, refused),
-    }
-}
-
-/// A text where it isn't too long.
-fn within(alloc: Global, text: &str) -> Result<String, AllocError> {
-    match limited(alloc, text) {
-        Ok(text) => String::from_str(alloc, text),
-        Err(refused) => refusal(alloc, refused),
+        Err(refused) => error(alloc, refused),
     }
 }
 
 /// What a verb that reads a word or answers it gives.
-fn of_word(alloc: Global, style: Integers, verb: &str, word: &str) -> Result<String, AllocError> {
+fn of_word(alloc: Global, style: Integers, verb: &str, word: &str) -> Answer {
     match verb {
-        "integer_word" => integer(alloc, style, word),
-        "list_word" => list(alloc, word),
-        "text_answer" => show(alloc, text_answer(alloc, word)),
+        "integer_word" => outcome(alloc, integer_word(alloc, style, word).map(Number)),
+        "list_word" => listed(alloc, list_word(alloc, word)),
+        "text_answer" => outcome(alloc, text_answer(alloc, word)),
         "string_answer" => {
             let string = String::from_str(alloc, word)?;
-            show(alloc, string_answer(alloc, string))
+            outcome(alloc, string_answer(alloc, string))
         }
-        "limited" => within(alloc, word),
+        "limited" => outcome(alloc, limited(alloc, word)),
         _ => no_call(alloc),
     }
 }
@@ -111,45 +88,20 @@ fn of_refused(alloc: Global, verb: &str, word: &str) -> Option<Refusal> {
     }
 }
 
-/// What a verb tells of a count, and of a word of so many.
-fn of_count(
-    alloc: Global,
-    style: Integers,
-    verb: &str,
-    count: usize,
-    words: &[Text],
-) -> Result<String, AllocError> {
-    match (verb, words) {
-        ("count_answer", []) => show(alloc, count_answer(alloc, count)),
-        ("index_word", [word]) => index(alloc, style, count, word.as_str()),
-        _ => no_call(alloc),
-    }
-}
-
 /// What a verb that begins with a count, or reads one word, answers.
-fn of_first(
-    alloc: Global,
-    style: Integers,
-    verb: &str,
-    first: &str,
-    words: &[Text],
-) -> Result<String, AllocError> {
-    match (verb, first.parse::<usize>()) {
-        ("count_answer" | "index_word", Ok(count)) => of_count(alloc, style, verb, count, words),
+fn of_first(alloc: Global, style: Integers, verb: &str, first: &str, words: &[Text]) -> Answer {
+    match (verb, first.parse::<usize>(), words) {
+        ("count_answer", Ok(count), []) => outcome(alloc, count_answer(alloc, count)),
+        ("index_word", Ok(count), [word]) => index(alloc, style, count, word.as_str()),
         _ => match of_refused(alloc, verb, first) {
-            Some(refused) => refusal(alloc, refused),
+            Some(refused) => error(alloc, refused),
             None => of_word(alloc, style, verb, first),
         },
     }
 }
 
 /// What a verb answers.
-pub(crate) fn answer(
-    alloc: Global,
-    style: Integers,
-    verb: &str,
-    words: &[Text],
-) -> Result<String, AllocError> {
+pub(crate) fn answer(alloc: Global, style: Integers, verb: &str, words: &[Text]) -> Answer {
     if verb.ends_with("_words") || verb == "one_word" {
         return String::from_str(alloc, last_read(alloc, verb, words));
     }

@@ -1,13 +1,10 @@
 //! Chains of frames.
 //!
-//! A call is a list; one that changes the chain answers `-`, and one that is refused must leave it
-//! as it was. `new` puts a new chain in its place. There is a second chain, which is kept: `keep`
-//! makes it a copy of the first, `swap` exchanges the two, and `same` tells whether they are equal.
-use crate::tree_rows::answers::{
-    Answer, Told, count, done, given, joined, list, no_call, refused, texts_of, truth, value,
-    written,
-};
-use crate::tree_rows::words::{pairs_of, place_of, value_of, values_of, words_of};
+//! A call is a list; one that changes the chain answers `-`, and any other must leave it as it was.
+//! `new` puts a new chain in its place. There is a second chain, which is kept: `keep` makes it a
+//! copy of the first, `swap` exchanges the two, and `same` tells whether they are equal.
+use crate::answers::{Answer, Told, done, no_call};
+use crate::words::{call_of, pairs_of, place_of, value_of, values_of, words_of};
 use row_runner::World;
 use std::alloc::{AllocError, Global};
 use std::mem::swap;
@@ -19,88 +16,68 @@ use tcl_variables::fault::FrameError;
 use tcl_variables::name_map::NameMap;
 
 impl Told for FrameError {
-    fn show(&self, alloc: Global) -> Result<String, AllocError> {
+    fn told(self, alloc: Global) -> Answer {
         match self {
-            FrameError::Fault(fault) => String::from_str(alloc, fault.message(alloc)?.as_str()),
+            FrameError::Fault(fault) => fault.message(alloc).told(alloc),
             FrameError::Memory => Err(AllocError),
         }
     }
 }
 
-/// The answer of a truth value.
-fn show_truth(alloc: Global, is_so: Result<bool, FrameError>) -> Result<Answer, AllocError> {
-    match is_so {
-        Ok(is_so) => truth(alloc, is_so),
-        Err(error) => refused(alloc, &error),
-    }
-}
-
-/// The answer of a count.
-fn show_count(alloc: Global, counted: Result<usize, FrameError>) -> Result<Answer, AllocError> {
-    match counted {
-        Ok(counted) => count(alloc, counted),
-        Err(error) => refused(alloc, &error),
-    }
-}
-
-/// The answer of a value that is lent.
-pub(crate) fn show_value(
+/// Adds a key and the text of its value.
+fn push_pair(
+    texts: &mut Vec<Text>,
     alloc: Global,
-    lent: Result<&Value, FrameError>,
-) -> Result<Answer, AllocError> {
-    match lent {
-        Ok(lent) => value(alloc, lent),
-        Err(error) => refused(alloc, &error),
+    key: Result<Text, AllocError>,
+    value: &Value,
+) -> Result<(), AllocError> {
+    texts.push(key?)?;
+    texts.push(value.text(alloc)?)?;
+    Ok(())
+}
+
+/// The list of the keys and values of elements in turn.
+impl Told for Vec<(Text, Value)> {
+    fn told(self, alloc: Global) -> Answer {
+        let mut texts = Vec::new(alloc);
+        'elements: for (key, value) in &self {
+            push_pair(&mut texts, alloc, key.clone(), value)?;
+        }
+        texts.told(alloc)
     }
 }
 
-/// The answer of keys.
-fn show_keys(alloc: Global, keys: Result<Vec<Text>, FrameError>) -> Result<Answer, AllocError> {
-    match keys {
-        Ok(keys) => list(alloc, &keys),
-        Err(error) => refused(alloc, &error),
+/// Texts, with a bar between any two.
+fn joined(alloc: Global, texts: &[Text]) -> Answer {
+    let mut all = String::new(alloc);
+    'texts: for (place, text) in texts.iter().enumerate() {
+        all.push_str(if place > 0 { "|" } else { "" })?;
+        all.push_str(text.as_str())?;
     }
-}
-
-/// The keys and values of elements in turn.
-fn flat(alloc: Global, elements: &[(Text, Value)]) -> Result<Vec<Text>, AllocError> {
-    let mut texts = Vec::new(alloc);
-    for (key, value) in elements {
-        texts.push(key.clone()?)?;
-        texts.push(value.text(alloc)?)?;
-    }
-    Ok(texts)
-}
-
-/// The answer of elements.
-fn show_elements(
-    alloc: Global,
-    elements: Result<Vec<(Text, Value)>, FrameError>,
-) -> Result<Answer, AllocError> {
-    match elements {
-        Ok(elements) => list(alloc, &flat(alloc, &elements)?),
-        Err(error) => refused(alloc, &error),
-    }
+    Ok(all)
 }
 
 /// The keys and values of an array in turn, with a bar between any two.
-fn show_entries(alloc: Global, elements: &NameMap<Value>) -> Result<Answer, AllocError> {
-    let mut all = Vec::new(alloc);
-    for place in 0..elements.len() {
-        if let Some((key, value)) = elements.entry(place) {
-            all.push(Text::new(alloc, key)?)?;
-            all.push(value.text(alloc)?)?;
+impl Told for &NameMap<Value> {
+    fn told(self, alloc: Global) -> Answer {
+        let mut texts = Vec::new(alloc);
+        'places: for place in 0..self.len() {
+            if let Some((key, value)) = self.entry(place) {
+                push_pair(&mut texts, alloc, Text::new(alloc, key), value)?;
+            }
         }
+        joined(alloc, &texts)
     }
-    joined(alloc, &all)
 }
 
-/// `entries NAME`: those of the array that is lent, or `none` where there is none.
-fn entries(frames: &Frames, alloc: Global, name: &Text) -> Result<Answer, AllocError> {
-    match frames.array(name) {
-        Ok(Some(elements)) => show_entries(alloc, elements),
-        Ok(None) => given(alloc, "none"),
-        Err(error) => refused(alloc, &error),
+/// The texts of values, with a bar between any two.
+impl Told for &[Value] {
+    fn told(self, alloc: Global) -> Answer {
+        let mut texts = Vec::new(alloc);
+        'values: for value in self {
+            texts.push(value.text(alloc)?)?;
+        }
+        joined(alloc, &texts)
     }
 }
 
@@ -113,41 +90,21 @@ fn scope_of(word: &Text) -> Scope {
     }
 }
 
-/// `words LEVEL`: the words of the call at a level, with a bar between any two, or `none` where
-/// there is no such level.
-fn words_at(frames: &Frames, alloc: Global, level: usize) -> Result<Answer, AllocError> {
-    match frames.words(level) {
-        Some(words) => joined(alloc, &texts_of(alloc, words)?),
-        None => given(alloc, "none"),
-    }
-}
-
-/// What a call answers on the names, words and elements of a chain.
-fn listed(frames: &Frames, alloc: Global, call: &str, word: &Text) -> Result<Answer, AllocError> {
+/// What a call answers that looks at what a name is, at the names of a scope, or at the words of
+/// the call at a level.
+fn looked_at(frames: &Frames, alloc: Global, call: &str, name: &Text) -> Answer {
     match call {
-        "keys" => show_keys(alloc, frames.element_names(alloc, word, None)),
-        "elements" => show_elements(alloc, frames.elements(alloc, word, None)),
-        "entries" => entries(frames, alloc, word),
-        "names" => joined(alloc, &frames.names(alloc, scope_of(word))?),
-        "count" => count(alloc, frames.names(alloc, scope_of(word))?.len()),
-        "words" => words_at(frames, alloc, place_of(word)),
+        "get" => frames.get(name).told(alloc),
+        "exists" => frames.exists(name).told(alloc),
+        "array" => frames.is_array(name).told(alloc),
+        "size" => frames.element_count(name).told(alloc),
+        "keys" => frames.element_names(alloc, name, None).told(alloc),
+        "elements" => frames.elements(alloc, name, None).told(alloc),
+        "entries" => frames.array(name).told(alloc),
+        "names" => joined(alloc, &frames.names(alloc, scope_of(name))?),
+        "count" => frames.names(alloc, scope_of(name))?.len().told(alloc),
+        "words" => frames.words(place_of(name)).told(alloc),
         _ => no_call(alloc),
-    }
-}
-
-/// What a call answers that looks at what a name is.
-fn looked_at(
-    frames: &Frames,
-    alloc: Global,
-    call: &str,
-    name: &Text,
-) -> Result<Answer, AllocError> {
-    match call {
-        "get" => show_value(alloc, frames.get(name)),
-        "exists" => show_truth(alloc, frames.exists(name)),
-        "array" => show_truth(alloc, frames.is_array(name)),
-        "size" => show_count(alloc, frames.element_count(name)),
-        _ => listed(frames, alloc, call, name),
     }
 }
 
@@ -159,140 +116,79 @@ fn seven(frames: &mut Frames, alloc: Global, name: &Text) -> Result<(), FrameErr
 
 /// What a call of a name answers, or of a level. `number` sets the name to the number 2, which is
 /// kept as a number.
-fn of_name(
-    frames: &mut Frames,
-    alloc: Global,
-    call: &str,
-    name: &Text,
-) -> Result<Answer, AllocError> {
+fn of_name(frames: &mut Frames, alloc: Global, call: &str, name: &Text) -> Answer {
     match call {
-        "unset" => done(alloc, frames.unset(alloc, name)),
-        "make" => done(alloc, frames.make_array(alloc, name)),
-        "empty" => done(alloc, frames.unset_elements(alloc, name, None)),
-        "number" => done(alloc, frames.set(alloc, name, Value::from_int(2))),
-        "seven" => done(alloc, seven(frames, alloc, name)),
-        "aside" => done(alloc, frames.set_aside(alloc, place_of(name))),
+        "unset" => frames.unset(alloc, name).told(alloc),
+        "make" => frames.make_array(alloc, name).told(alloc),
+        "empty" => frames.unset_elements(alloc, name, None).told(alloc),
+        "number" => frames.set(alloc, name, Value::from_int(2)).told(alloc),
+        "seven" => seven(frames, alloc, name).told(alloc),
+        "aside" => frames.set_aside(alloc, place_of(name)).told(alloc),
         _ => looked_at(frames, alloc, call, name),
     }
 }
 
 /// What a call answers of a name and a value, a key or a pattern.
-fn of_two(
-    frames: &mut Frames,
-    alloc: Global,
-    call: &str,
-    name: &Text,
-    other: &Text,
-) -> Result<Answer, AllocError> {
+fn of_two(frames: &mut Frames, alloc: Global, call: &str, name: &Text, other: &Text) -> Answer {
     match call {
-        "set" => done(alloc, frames.set(alloc, name, value_of(other)?)),
-        "drop" => done(alloc, frames.unset_element(alloc, name, other)),
-        "empty" => done(alloc, frames.unset_elements(alloc, name, Some(other))),
-        "keys" => show_keys(alloc, frames.element_names(alloc, name, Some(other))),
-        "elements" => show_elements(alloc, frames.elements(alloc, name, Some(other))),
-        _ => no_call(alloc),
-    }
-}
-
-/// What a call of three words answers: `put NAME KEY VALUE`, or `link LEVEL OTHER LOCAL`.
-fn of_three(
-    frames: &mut Frames,
-    alloc: Global,
-    call: &str,
-    words: (&Text, &Text, &Text),
-) -> Result<Answer, AllocError> {
-    let (first, second, third) = words;
-    match call {
-        "put" => done(
-            alloc,
-            frames.set_element(alloc, first, second, value_of(third)?),
-        ),
-        "link" => done(alloc, frames.link(alloc, place_of(first), second, third)),
+        "set" => frames.set(alloc, name, value_of(other)?).told(alloc),
+        "drop" => frames.unset_element(alloc, name, other).told(alloc),
+        "empty" => frames.unset_elements(alloc, name, Some(other)).told(alloc),
+        "keys" => frames.element_names(alloc, name, Some(other)).told(alloc),
+        "elements" => frames.elements(alloc, name, Some(other)).told(alloc),
         _ => no_call(alloc),
     }
 }
 
 /// What a call of no words answers: `pop` takes the frame on top off, and `back` brings those back
 /// that were set aside last.
-fn of_none(frames: &mut Frames, alloc: Global, call: &str) -> Result<Answer, AllocError> {
+fn of_none(frames: &mut Frames, alloc: Global, call: &str) -> Answer {
     match call {
-        "pop" => {
-            frames.pop();
-            given(alloc, "-")
+        "pop" => frames.pop(),
+        "back" => frames.bring_back(),
+        "level" => return frames.level().told(alloc),
+        _ => return no_call(alloc),
+    }
+    done(alloc)
+}
+
+/// What a call answers, by its words. `push ?WORD ..?` puts a frame of a call with these words on
+/// top, and `fill NAME ?KEY VALUE ..?` sets elements together.
+fn answered(frames: &mut Frames, alloc: Global, call: &str, words: &[Text]) -> Answer {
+    match (call, words) {
+        ("push", _) => frames.push(alloc, values_of(alloc, words)?).told(alloc),
+        ("fill", [name, pairs @ ..]) => {
+            frames
+                .set_elements(alloc, name, pairs_of(alloc, pairs)?)
+                .told(alloc)
         }
-        "back" => {
-            frames.bring_back();
-            given(alloc, "-")
+        ("put", [name, key, value]) => {
+            frames
+                .set_element(alloc, name, key, value_of(value)?)
+                .told(alloc)
         }
-        "level" => count(alloc, frames.level()),
+        ("link", [level, other, local]) => {
+            frames
+                .link(alloc, place_of(level), other, local)
+                .told(alloc)
+        }
+        (_, []) => of_none(frames, alloc, call),
+        (_, [name]) => of_name(frames, alloc, call, name),
+        (_, [name, other]) => of_two(frames, alloc, call, name, other),
         _ => no_call(alloc),
     }
 }
 
-/// `push ?WORD ..?`: puts a frame on top, of a call with these words.
-fn push(frames: &mut Frames, alloc: Global, words: &[Text]) -> Result<Answer, AllocError> {
-    frames.push(alloc, values_of(alloc, words)?)?;
-    given(alloc, "-")
-}
-
-/// `fill NAME ?KEY VALUE ..?`: sets elements together.
-fn fill(
-    frames: &mut Frames,
-    alloc: Global,
-    name: &Text,
-    words: &[Text],
-) -> Result<Answer, AllocError> {
-    done(
-        alloc,
-        frames.set_elements(alloc, name, pairs_of(alloc, words)?),
-    )
-}
-
-/// What a call answers, by how many words it has. `push` and `fill` take as many as they need.
-fn answered(
-    frames: &mut Frames,
-    alloc: Global,
-    call: &str,
-    words: &[Text],
-) -> Result<Answer, AllocError> {
-    match words {
-        _ if call == "push" => push(frames, alloc, words),
-        [] => of_none(frames, alloc, call),
-        [name, others @ ..] if call == "fill" => fill(frames, alloc, name, others),
-        [name] => of_name(frames, alloc, call, name),
-        [name, other] => of_two(frames, alloc, call, name, other),
-        [first, second, third] => of_three(frames, alloc, call, (first, second, third)),
-        _ => no_call(alloc),
-    }
-}
-
-/// What a call answers, by its words.
-fn answer(frames: &mut Frames, alloc: Global, words: &[Text]) -> Result<Answer, AllocError> {
-    match words {
-        [call, others @ ..] => answered(frames, alloc, call.as_str(), others),
-        [] => no_call(alloc),
-    }
-}
-
-/// What a row tells of an answer, of a chain that was so before.
-fn show(
-    frames: &Frames,
-    before: &Frames,
-    alloc: Global,
-    answer: Answer,
-) -> Result<String, AllocError> {
-    match answer {
-        Answer::Refused(_) if !frames.same(before) => String::from_str(alloc, "changed"),
-        answer => Ok(written(answer)),
-    }
-}
-
-/// What a row tells of a call on a chain.
-fn on_chain(frames: &mut Frames, alloc: Global, call: &str) -> Result<String, AllocError> {
+/// What a call on a chain answers, which may change the chain if it answers `-`.
+fn on_chain(frames: &mut Frames, alloc: Global, call: &str) -> Answer {
     let before = frames.copy()?;
     let words = words_of(alloc, call)?;
-    let answer = answer(frames, alloc, &words)?;
-    show(frames, &before, alloc, answer)
+    let (call, words) = call_of(&words);
+    let answer = answered(frames, alloc, call, words)?;
+    if answer.as_str() == "-" || frames.same(&before) {
+        return Ok(answer);
+    }
+    String::from_str(alloc, "changed")
 }
 
 /// A chain of frames, and one that is kept.
@@ -317,25 +213,6 @@ impl Chains {
             kept: Frames::new(alloc)?,
         })
     }
-
-    fn renew(&mut self, alloc: Global) -> Result<String, AllocError> {
-        self.frames = Frames::new(alloc)?;
-        String::from_str(alloc, "-")
-    }
-
-    fn keep(&mut self, alloc: Global) -> Result<String, AllocError> {
-        self.kept = self.frames.copy()?;
-        String::from_str(alloc, "-")
-    }
-
-    fn swap(&mut self, alloc: Global) -> Result<String, AllocError> {
-        swap(&mut self.frames, &mut self.kept);
-        String::from_str(alloc, "-")
-    }
-
-    fn same(&self, alloc: Global) -> Result<String, AllocError> {
-        Ok(written(truth(alloc, self.frames.same(&self.kept))?))
-    }
 }
 
 impl World for Chains {
@@ -344,13 +221,14 @@ impl World for Chains {
         Ok(())
     }
 
-    fn answer(&mut self, alloc: Global, call: &str) -> Result<String, AllocError> {
+    fn answer(&mut self, alloc: Global, call: &str) -> Answer {
         match call {
-            "new" => self.renew(alloc),
-            "keep" => self.keep(alloc),
-            "swap" => self.swap(alloc),
-            "same" => self.same(alloc),
-            _ => on_chain(&mut self.frames, alloc, call),
+            "new" => self.frames = Frames::new(alloc)?,
+            "keep" => self.kept = self.frames.copy()?,
+            "swap" => swap(&mut self.frames, &mut self.kept),
+            "same" => return self.frames.same(&self.kept).told(alloc),
+            _ => return on_chain(&mut self.frames, alloc, call),
         }
+        done(alloc)
     }
 }

@@ -3,8 +3,8 @@
 //! A call is a list, which is made on one completion; one that changes it answers `-`. A completion
 //! is told as its code, the code and the level of its options and its text, and options as their
 //! code, their level and their errorcode.
-use crate::tree_rows::answers::{Answer, Told, given, no_call, number, refused, value, written};
-use crate::tree_rows::words::{value_of, values_of, words_of};
+use crate::answers::{Answer, Told, done, no_call};
+use crate::words::{call_of, value_of, values_of, words_of};
 use row_runner::World;
 use std::alloc::{AllocError, Global};
 use tcl_flow::completion::{
@@ -19,9 +19,9 @@ use tcl_text::text::Text;
 use tcl_value::value::Value;
 
 impl Told for OptionsError {
-    fn show(&self, alloc: Global) -> Result<String, AllocError> {
+    fn told(self, alloc: Global) -> Answer {
         match self {
-            OptionsError::Fault(fault) => String::from_str(alloc, fault.message(alloc)?.as_str()),
+            OptionsError::Fault(fault) => fault.message(alloc).told(alloc),
             OptionsError::Memory => Err(AllocError),
         }
     }
@@ -29,201 +29,152 @@ impl Told for OptionsError {
 
 /// The code that a word spells; one that spells none is a code that no row has.
 fn code_in(word: &Text) -> i64 {
-    match word.as_str().parse::<i64>() {
-        Ok(code) => code,
-        Err(_) => i64::MIN,
-    }
+    word.as_str().parse::<i64>().unwrap_or(i64::MIN)
 }
 
 /// The level that a word spells.
 fn level_in(word: &Text) -> u32 {
-    match word.as_str().parse::<u32>() {
-        Ok(level) => level,
-        Err(_) => u32::MAX,
-    }
-}
-
-/// A code, or `none`.
-fn show_code(alloc: Global, code: Option<i64>) -> Result<Answer, AllocError> {
-    match code {
-        Some(code) => Ok(Answer::Given(format!(in alloc; "{code}")?)),
-        None => given(alloc, "none"),
-    }
-}
-
-/// An errorcode as it is told.
-fn show_errorcode(alloc: Global, errorcode: Option<&Value>) -> Result<Text, AllocError> {
-    match errorcode {
-        Some(errorcode) => errorcode.text(alloc),
-        None => Text::new(alloc, "NONE"),
-    }
+    word.as_str().parse::<u32>().unwrap_or(u32::MAX)
 }
 
 /// Options as they are told.
-fn show_options(alloc: Global, options: &Options) -> Result<Answer, AllocError> {
-    let errorcode = show_errorcode(alloc, options.errorcode.as_ref())?;
-    let (code, level) = (options.code, options.level);
-    Ok(Answer::Given(format!(in alloc; "{code} {level} {}", errorcode.as_str())?))
-}
-
-/// A completion as it is told.
-fn show_completion(alloc: Global, made: &Completion) -> Result<Answer, AllocError> {
-    let text = made.text.text(alloc)?;
-    let (code, last, level) = (made.code, made.options.code, made.options.level);
-    Ok(Answer::Given(format!(in alloc; "{code} {last} {level} {}", text.as_str())?))
-}
-
-/// `options ?WORD ..?`: what options come to.
-fn read(alloc: Global, words: &[Value]) -> Result<Answer, AllocError> {
-    match Options::read(alloc, Integers::Tcl8, words) {
-        Ok(options) => show_options(alloc, &options),
-        Err(error) => refused(alloc, &error),
+impl Told for Options {
+    fn told(self, alloc: Global) -> Answer {
+        let mut all = format!(in alloc; "{} {} ", self.code, self.level)?;
+        match &self.errorcode {
+            Some(errorcode) => errorcode.write_to(alloc, &mut all)?,
+            None => all.push_str("NONE")?,
+        }
+        Ok(all)
     }
 }
 
-/// `return ?WORD ..?`: what `return` makes.
-fn made(alloc: Global, words: &[Value]) -> Result<Answer, AllocError> {
-    match return_words(alloc, Integers::Tcl9, words) {
-        Ok(made) => show_completion(alloc, &made),
-        Err(error) => refused(alloc, &error),
+/// A completion as it is told.
+impl Told for Completion {
+    fn told(self, alloc: Global) -> Answer {
+        let (last, level) = (self.options.code, self.options.level);
+        let mut all = format!(in alloc; "{} {last} {level} ", self.code)?;
+        self.text.write_to(alloc, &mut all)?;
+        Ok(all)
     }
 }
 
 /// `code-of WORD`: the code that a word means.
-fn show_code_of(alloc: Global, mut word: Value) -> Result<Answer, AllocError> {
-    let code = code_of(alloc, Integers::Tcl8, &mut word)?;
-    show_code(alloc, code)
+fn show_code_of(alloc: Global, mut word: Value) -> Answer {
+    code_of(alloc, Integers::Tcl8, &mut word).told(alloc)
 }
 
 /// `level-of WORD`: the level that a word means.
-fn show_level_of(alloc: Global, mut word: Value) -> Result<Answer, AllocError> {
-    number(alloc, level_of(Integers::Tcl8, &mut word))
+fn show_level_of(alloc: Global, mut word: Value) -> Answer {
+    level_of(Integers::Tcl8, &mut word).told(alloc)
 }
 
 /// `bad-option WORD` and `bad-code WORD`: what is told of a fault.
-fn show_fault(alloc: Global, fault: &OptionsFault) -> Result<Answer, AllocError> {
-    given(alloc, fault.message(alloc)?.as_str())
+impl Told for OptionsFault {
+    fn told(self, alloc: Global) -> Answer {
+        self.message(alloc).told(alloc)
+    }
 }
 
 /// `shown`: the options that a completion shows.
-fn shown(alloc: Global, own: &Completion) -> Result<Answer, AllocError> {
+fn shown(alloc: Global, own: &Completion) -> Answer {
     match caught_options(alloc, own) {
-        Ok(options) => value(alloc, &options),
+        Ok(options) => options.told(alloc),
         Err(_) => Err(AllocError),
     }
 }
 
-/// `count`: what is told at the limit of commands.
-fn show_stop(alloc: Global) -> Result<Answer, AllocError> {
-    value(alloc, &StopKind::Count.error(alloc)?.text)
+/// Options of a code and a level.
+fn options_of(code: &Text, level: &Text) -> Options {
+    Options {
+        code: code_in(code),
+        level: u64::from(level_in(level)),
+        errorcode: None,
+    }
 }
 
 /// `begin CODE LEVEL`: a return of the number 1.
-fn begin(own: &mut Completion, code: i64, level: u32) {
-    *own = Completion {
+fn begun(options: Options) -> Completion {
+    Completion {
         code: RETURN,
         text: Value::from_int(1),
-        options: Options {
-            code,
-            level: u64::from(level),
-            errorcode: None,
-        },
-    };
-}
-
-/// `make CODE LEVEL TEXT`: a return that is made with these options.
-fn make(own: &mut Completion, code: i64, level: u32, text: Value) {
-    let options = Options {
-        code,
-        level: u64::from(level),
-        errorcode: None,
-    };
-    *own = make_return(options, text);
+        options,
+    }
 }
 
 /// `plain CODE TEXT`: a return that is made with plain options but for the code.
-fn plain(own: &mut Completion, code: i64, text: Value) {
+fn plain(code: i64, text: Value) -> Completion {
     let mut options = Options::new();
     options.code = code;
-    *own = make_return(options, text);
+    make_return(options, text)
 }
 
-/// What a call of no words answers that looks at the completion, or tells a message.
-fn looked_at(own: &Completion, alloc: Global, call: &str) -> Result<Answer, AllocError> {
+/// What a call of no words answers that looks at the completion, or tells a message: `count` what
+/// is told at the limit of commands.
+fn looked_at(own: &Completion, alloc: Global, call: &str) -> Answer {
     match call {
-        "code" => show_code(alloc, Some(own.code)),
-        "last" => show_code(alloc, Some(own.options.code)),
-        "level" => number(alloc, Some(own.options.level)),
-        "text" => value(alloc, &own.text),
+        "code" => own.code.told(alloc),
+        "last" => own.options.code.told(alloc),
+        "level" => own.options.level.told(alloc),
+        "text" => own.text.text(alloc).told(alloc),
         "shown" => shown(alloc, own),
-        "continue" => value(alloc, &continue_outside(alloc)?),
-        "count" => show_stop(alloc),
+        "continue" => continue_outside(alloc).told(alloc),
+        "count" => StopKind::Count.error(alloc)?.text.text(alloc).told(alloc),
         _ => no_call(alloc),
     }
 }
 
 /// What a call of no words answers. `settle`, `proc` and `file` settle the completion, and let it
 /// leave a procedure and a file.
-fn of_none(own: &mut Completion, alloc: Global, call: &str) -> Result<Answer, AllocError> {
+fn of_none(own: &mut Completion, alloc: Global, call: &str) -> Answer {
     match call {
         "settle" => settle(alloc, own)?,
         "proc" => leave_proc(alloc, own)?,
         "file" => leave_file(own),
         _ => return looked_at(own, alloc, call),
     }
-    given(alloc, "-")
+    done(alloc)
 }
 
 /// What a call of one word answers. `error TEXT` makes an error, and `errorcode LIST` gives the
 /// completion its errorcode.
-fn of_one(
-    own: &mut Completion,
-    alloc: Global,
-    call: &str,
-    word: &Text,
-) -> Result<Answer, AllocError> {
+fn of_one(own: &mut Completion, alloc: Global, call: &str, word: &Text) -> Answer {
     match call {
         "error" => *own = error(value_of(word)?),
         "errorcode" => own.options.errorcode = Some(value_of(word)?),
         "code-of" => return show_code_of(alloc, value_of(word)?),
         "level-of" => return show_level_of(alloc, value_of(word)?),
-        "bad-option" => return show_fault(alloc, &OptionsFault::BadOption(word.clone()?)),
-        "bad-code" => return show_fault(alloc, &OptionsFault::BadCode(word.clone()?)),
+        "bad-option" => return OptionsFault::BadOption(word.clone()?).told(alloc),
+        "bad-code" => return OptionsFault::BadCode(word.clone()?).told(alloc),
         _ => return no_call(alloc),
     }
-    given(alloc, "-")
+    done(alloc)
 }
 
-/// What a call answers that isn't of any number of words.
-fn of_few(
-    own: &mut Completion,
-    alloc: Global,
-    call: &str,
-    words: &[Text],
-) -> Result<Answer, AllocError> {
-    match words {
-        [] => return of_none(own, alloc, call),
-        [word] => return of_one(own, alloc, call, word),
-        [code, level] if call == "begin" => begin(own, code_in(code), level_in(level)),
-        [code, text] if call == "plain" => plain(own, code_in(code), value_of(text)?),
-        [code, level, text] if call == "make" => {
-            make(own, code_in(code), level_in(level), value_of(text)?);
+/// What a call answers, by its words. `options ?WORD ..?` tells what options come to, and
+/// `return ?WORD ..?` what `return` makes. `make CODE LEVEL TEXT` makes a return with these
+/// options.
+fn answered(own: &mut Completion, alloc: Global, call: &str, words: &[Text]) -> Answer {
+    match (call, words) {
+        ("options", _) => {
+            let words = values_of(alloc, words)?;
+            return Options::read(alloc, Integers::Tcl8, &words).told(alloc);
         }
+        ("return", _) => {
+            let words = values_of(alloc, words)?;
+            return return_words(alloc, Integers::Tcl9, &words).told(alloc);
+        }
+        ("begin", [code, level]) => *own = begun(options_of(code, level)),
+        ("plain", [code, text]) => *own = plain(code_in(code), value_of(text)?),
+        ("make", [code, level, text]) => {
+            let text = value_of(text)?;
+            *own = make_return(options_of(code, level), text);
+        }
+        (_, []) => return of_none(own, alloc, call),
+        (_, [word]) => return of_one(own, alloc, call, word),
         _ => return no_call(alloc),
     }
-    given(alloc, "-")
-}
-
-/// What a call answers, by its words.
-fn answer(own: &mut Completion, alloc: Global, words: &[Text]) -> Result<Answer, AllocError> {
-    match words {
-        [call, others @ ..] => match call.as_str() {
-            "options" => read(alloc, &values_of(alloc, others)?),
-            "return" => made(alloc, &values_of(alloc, others)?),
-            call => of_few(own, alloc, call, others),
-        },
-        [] => no_call(alloc),
-    }
+    done(alloc)
 }
 
 /// A completion, which is that of the empty text at first.
@@ -251,8 +202,9 @@ impl World for Completions {
         Ok(())
     }
 
-    fn answer(&mut self, alloc: Global, call: &str) -> Result<String, AllocError> {
+    fn answer(&mut self, alloc: Global, call: &str) -> Answer {
         let words = words_of(alloc, call)?;
-        Ok(written(answer(&mut self.own, alloc, &words)?))
+        let (call, words) = call_of(&words);
+        answered(&mut self.own, alloc, call, words)
     }
 }

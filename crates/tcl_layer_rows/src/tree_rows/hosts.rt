@@ -3,10 +3,8 @@
 //! A call is a list, which is made on one host; one that only changes it answers `-`, and one that
 //! is refused the refusal's name. `ask CALL ..` makes a call as a request that is a value, and
 //! answers its reply.
-use crate::tree_rows::answers::{
-    Answer, Told, done, given, no_call, number, refused, truth, written,
-};
-use crate::tree_rows::words::{number_of, words_of};
+use crate::answers::{Answer, Told, done, no_call};
+use crate::words::{number_of, words_of};
 use row_runner::World;
 use std::alloc::{AllocError, Global};
 use tcl_host::bytes::Bytes;
@@ -17,98 +15,59 @@ use tcl_host::reply::{HostError, HostRefusal, HostReply};
 use tcl_host::request::Request;
 use tcl_text::text::Text;
 
+impl Told for HostRefusal {
+    fn told(self, alloc: Global) -> Answer {
+        format!(in alloc; "{self:?}")
+    }
+}
+
 impl Told for HostError {
-    fn show(&self, alloc: Global) -> Result<String, AllocError> {
+    fn told(self, alloc: Global) -> Answer {
         match self {
-            HostError::Refused(refusal) => format!(in alloc; "{refusal:?}"),
+            HostError::Refused(refusal) => refusal.told(alloc),
             HostError::Memory => Err(AllocError),
         }
     }
 }
 
-/// The answer of bytes, which are the bytes of a text.
-fn show_bytes(alloc: Global, bytes: &[u8]) -> Result<Answer, AllocError> {
-    match str::from_utf8(bytes) {
-        Ok(text) => given(alloc, text),
-        Err(_) => given(alloc, "no text"),
+/// The text that bytes are.
+impl Told for &[u8] {
+    fn told(self, alloc: Global) -> Answer {
+        String::from_str(alloc, str::from_utf8(self).unwrap_or("no text"))
     }
 }
 
-/// The answer of all that was left.
-fn show_rest(alloc: Global, rest: Result<Bytes, HostError>) -> Result<Answer, AllocError> {
-    match rest {
-        Ok(bytes) => show_bytes(alloc, bytes.as_slice()),
-        Err(error) => refused(alloc, &error),
-    }
-}
-
-/// The answer of a line, or `none` where none is left.
-fn show_line(alloc: Global, line: Result<Option<Bytes>, HostError>) -> Result<Answer, AllocError> {
-    match line {
-        Ok(Some(bytes)) => show_bytes(alloc, bytes.as_slice()),
-        Ok(None) => given(alloc, "none"),
-        Err(error) => refused(alloc, &error),
-    }
-}
-
-/// The answer of whether the last read met the end.
-fn show_end(alloc: Global, is_end: Result<bool, HostError>) -> Result<Answer, AllocError> {
-    match is_end {
-        Ok(is_end) => truth(alloc, is_end),
-        Err(error) => refused(alloc, &error),
-    }
-}
-
-/// The answer of the name of a channel that was opened.
-fn show_channel(alloc: Global, opened: Result<Text, HostError>) -> Result<Answer, AllocError> {
-    match opened {
-        Ok(channel) => given(alloc, channel.as_str()),
-        Err(error) => refused(alloc, &error),
+impl Told for Bytes {
+    fn told(self, alloc: Global) -> Answer {
+        self.as_slice().told(alloc)
     }
 }
 
 /// `open NAME MODE`
-fn open(
-    host: &mut MemoryHost,
-    alloc: Global,
-    name: &str,
-    mode: &str,
-) -> Result<Answer, AllocError> {
+fn open(host: &mut MemoryHost, alloc: Global, name: &str, mode: &str) -> Answer {
     match OpenMode::from_word(mode) {
-        Ok(mode) => show_channel(alloc, host.open(alloc, name, mode)),
+        Ok(mode) => host.open(alloc, name, mode).told(alloc),
         Err(BadMode) => no_call(alloc),
     }
 }
 
 /// `mode WORD`: the mode that a word names.
-fn show_mode(alloc: Global, word: &str) -> Result<Answer, AllocError> {
+fn show_mode(alloc: Global, word: &str) -> Answer {
     match OpenMode::from_word(word) {
-        Ok(mode) => Ok(Answer::Given(format!(in alloc; "{mode:?}")?)),
-        Err(fault) => Ok(Answer::Given(format!(in alloc; "{fault:?}")?)),
+        Ok(mode) => format!(in alloc; "{mode:?}"),
+        Err(fault) => format!(in alloc; "{fault:?}"),
     }
 }
 
-/// `contents NAME`: what a file holds, or `none` where there is none.
-fn contents(host: &MemoryHost, alloc: Global, name: &str) -> Result<Answer, AllocError> {
-    match host.file(name) {
-        Some(bytes) => show_bytes(alloc, bytes),
-        None => given(alloc, "none"),
-    }
-}
-
-/// What a script is told of a refusal on a channel or a file of this name.
-fn message(alloc: Global, refusal: HostRefusal, name: &str) -> Result<Answer, AllocError> {
-    given(alloc, refusal.message(alloc, name)?.as_str())
-}
-
-/// `tell REFUSAL NAME`: what a script is told of a refusal.
-fn show_message(alloc: Global, refusal: &str, name: &str) -> Result<Answer, AllocError> {
-    match refusal {
-        "NoChannel" => message(alloc, HostRefusal::NoChannel, name),
-        "DeviceFault" => message(alloc, HostRefusal::DeviceFault, name),
-        "NotOpened" => message(alloc, HostRefusal::NotOpened, name),
-        _ => given(alloc, BadMode.message(alloc, name)?.as_str()),
-    }
+/// `tell REFUSAL NAME`: what a script is told of a refusal on a channel or a file of this name.
+fn show_message(alloc: Global, refusal: &str, name: &str) -> Answer {
+    let refusal = match refusal {
+        "NoChannel" => HostRefusal::NoChannel,
+        "DeviceFault" => HostRefusal::DeviceFault,
+        "NotOpened" => HostRefusal::NotOpened,
+        _ => return BadMode.message(alloc, name).told(alloc),
+    };
+    refusal.message(alloc, name).told(alloc)
 }
 
 /// The request of a call, which asks for a file to be written, for all that is left, or else that a
@@ -121,99 +80,75 @@ fn request_of(call: &str, name: Text) -> Request {
     }
 }
 
-/// The answer of a reply.
-fn show_reply(alloc: Global, reply: &HostReply) -> Result<Answer, AllocError> {
-    match reply {
-        HostReply::Opened(channel) => {
-            Ok(Answer::Given(format!(in alloc; "Opened {}", channel.as_str())?))
+impl Told for &HostReply {
+    fn told(self, alloc: Global) -> Answer {
+        match self {
+            HostReply::Opened(channel) => format!(in alloc; "Opened {}", channel.as_str()),
+            HostReply::Done => String::from_str(alloc, "Done"),
+            HostReply::Refused(refusal) => refusal.told(alloc),
+            _ => String::from_str(alloc, "another reply"),
         }
-        HostReply::Done => given(alloc, "Done"),
-        HostReply::Refused(refusal) => refused(alloc, &HostError::Refused(*refusal)),
-        _ => given(alloc, "another reply"),
     }
 }
 
 /// `ask CALL NAME`, `fits CALL NAME`: what is replied, or whether it is one of the request's own
 /// replies. `done-fits` tells that of `Done`.
-fn asked(
-    host: &mut MemoryHost,
-    alloc: Global,
-    call: &str,
-    request: &Request,
-) -> Result<Answer, AllocError> {
+fn asked(host: &mut MemoryHost, alloc: Global, call: &str, request: &Request) -> Answer {
     match call {
-        "ask" => show_reply(alloc, &ask(host, alloc, request)?),
-        "fits" => truth(alloc, ask(host, alloc, request)?.is_reply_to(request)),
-        "done-fits" => truth(alloc, HostReply::Done.is_reply_to(request)),
+        "ask" => ask(host, alloc, request)?.told(alloc),
+        "fits" => ask(host, alloc, request)?.is_reply_to(request).told(alloc),
+        "done-fits" => HostReply::Done.is_reply_to(request).told(alloc),
         _ => no_call(alloc),
     }
 }
 
 /// What a call of two words answers. `file NAME BYTES` makes a file.
-fn of_two(
-    host: &mut MemoryHost,
-    alloc: Global,
-    call: &str,
-    first: &Text,
-    second: &Text,
-) -> Result<Answer, AllocError> {
+fn of_two(host: &mut MemoryHost, alloc: Global, call: &str, first: &Text, second: &Text) -> Answer {
     let (name, text) = (first.as_str(), second.as_str());
     match call {
-        "file" => {
-            host.put_file(alloc, name, text.as_bytes())?;
-            given(alloc, "-")
-        }
-        "write" => done(alloc, host.write(name, text)),
+        "file" => host.put_file(alloc, name, text.as_bytes()).told(alloc),
+        "write" => host.write(name, text).told(alloc),
         "open" => open(host, alloc, name, text),
         "tell" => show_message(alloc, name, text),
         _ => asked(host, alloc, call, &request_of(name, second.clone()?)),
     }
 }
 
-/// What a call on a channel answers.
-fn of_channel(
-    host: &mut MemoryHost,
-    alloc: Global,
-    call: &str,
-    channel: &str,
-) -> Result<Answer, AllocError> {
+/// What a call of one word answers. `input BYTES` gives what there is to read, and after
+/// `fail COUNT` the call of that number, counted from there, fails.
+fn of_one(host: &mut MemoryHost, alloc: Global, call: &str, word: &Text) -> Answer {
+    let name = word.as_str();
     match call {
-        "flush" => done(alloc, host.flush(channel)),
-        "close" => done(alloc, host.close(channel)),
-        "line" => show_line(alloc, host.read_line(alloc, channel)),
-        "read" => show_rest(alloc, host.read_all(alloc, channel)),
-        "eof" => show_end(alloc, host.eof(channel)),
+        "input" => host.put_input(name.as_bytes()).told(alloc),
+        "fail" => {
+            host.fail_at(number_of(word));
+            done(alloc)
+        }
+        "contents" => host.file(name).told(alloc),
+        "mode" => show_mode(alloc, name),
+        "flush" => host.flush(name).told(alloc),
+        "close" => host.close(name).told(alloc),
+        "line" => host.read_line(alloc, name).told(alloc),
+        "read" => host.read_all(alloc, name).told(alloc),
+        "eof" => host.eof(name).told(alloc),
         _ => no_call(alloc),
     }
 }
 
-/// What a call of one word answers. `input BYTES` gives what there is to read, and after
-/// `fail COUNT` the call of that number, counted from there, fails.
-fn of_one(
-    host: &mut MemoryHost,
-    alloc: Global,
-    call: &str,
-    word: &Text,
-) -> Result<Answer, AllocError> {
+/// What a call of no words answers.
+fn of_none(host: &MemoryHost, alloc: Global, call: &str) -> Answer {
     match call {
-        "input" => host.put_input(word.as_str().as_bytes())?,
-        "fail" => host.fail_at(number_of(word)),
-        "contents" => return contents(host, alloc, word.as_str()),
-        "mode" => return show_mode(alloc, word.as_str()),
-        _ => return of_channel(host, alloc, call, word.as_str()),
+        "output" => host.output().told(alloc),
+        "errors" => host.errors().told(alloc),
+        "failures" => host.failures().told(alloc),
+        _ => no_call(alloc),
     }
-    given(alloc, "-")
 }
 
 /// What a call answers, by its words.
-fn answer(host: &mut MemoryHost, alloc: Global, words: &[Text]) -> Result<Answer, AllocError> {
+fn answered(host: &mut MemoryHost, alloc: Global, words: &[Text]) -> Answer {
     match words {
-        [call] => match call.as_str() {
-            "output" => show_bytes(alloc, host.output()),
-            "errors" => show_bytes(alloc, host.errors()),
-            "failures" => number(alloc, Some(host.failures())),
-            _ => no_call(alloc),
-        },
+        [call] => of_none(host, alloc, call.as_str()),
         [call, word] => of_one(host, alloc, call.as_str(), word),
         [call, first, second] => of_two(host, alloc, call.as_str(), first, second),
         _ => no_call(alloc),
@@ -245,8 +180,7 @@ impl World for Hosts {
         Ok(())
     }
 
-    fn answer(&mut self, alloc: Global, call: &str) -> Result<String, AllocError> {
-        let words = words_of(alloc, call)?;
-        Ok(written(answer(&mut self.host, alloc, &words)?))
+    fn answer(&mut self, alloc: Global, call: &str) -> Answer {
+        answered(&mut self.host, alloc, &words_of(alloc, call)?)
     }
 }

@@ -3,8 +3,8 @@
 //! A call is a list; one that changes the map answers `-`. There is a second map, which is kept:
 //! `keep` makes it a copy of the first, `swap` exchanges the two, and `same` tells whether they are
 //! equal.
-use crate::tree_rows::answers::{Answer, given, no_call, truth, value, written};
-use crate::tree_rows::words::{pairs_of, place_of, value_of, words_of};
+use crate::answers::{Answer, Told, done, no_call};
+use crate::words::{call_of, pairs_of, place_of, value_of, words_of};
 use row_runner::World;
 use std::alloc::{AllocError, Global};
 use std::mem::swap;
@@ -13,135 +13,92 @@ use tcl_value::value::Value;
 use tcl_variables::comparing::Same;
 use tcl_variables::name_map::NameMap;
 
-/// The answer of a call that changes the map.
-fn done(alloc: Global, changed: Result<(), AllocError>) -> Result<Answer, AllocError> {
-    changed?;
-    given(alloc, "-")
-}
-
-/// The names of a map, each followed by its text and a blank.
-fn entries(map: &NameMap<Value>, alloc: Global) -> Result<Answer, AllocError> {
+/// `entries`: the names of a map, each followed by its text and a blank.
+fn entries(map: &NameMap<Value>, alloc: Global) -> Answer {
     let mut all = String::new(alloc);
-    for place in 0..map.len() {
+    'places: for place in 0..map.len() {
         if let Some((name, text)) = map.entry(place) {
-            write!(all, "{name}{} ", text.text(alloc)?.as_str())?;
+            all.push_str(name)?;
+            text.write_to(alloc, &mut all)?;
+            all.push(' ')?;
         }
     }
-    Ok(Answer::Given(all))
+    Ok(all)
 }
 
-/// `get NAME`: the text of a name.
-fn get(map: &NameMap<Value>, alloc: Global, name: &str) -> Result<Answer, AllocError> {
-    match map.get(name) {
-        Some(found) => value(alloc, found),
-        None => given(alloc, "none"),
+/// The place of a name and its text.
+impl Told for (usize, &Value) {
+    fn told(self, alloc: Global) -> Answer {
+        let mut all = format!(in alloc; "{} ", self.0)?;
+        self.1.write_to(alloc, &mut all)?;
+        Ok(all)
     }
 }
 
-/// `find NAME`: the place of a name and its text.
-fn find(map: &NameMap<Value>, alloc: Global, name: &str) -> Result<Answer, AllocError> {
-    match map.find(name) {
-        Some((place, text)) => {
-            let text = text.text(alloc)?;
-            Ok(Answer::Given(format!(in alloc; "{place} {}", text.as_str())?))
-        }
-        None => given(alloc, "none"),
+/// The name at a place and its text.
+impl Told for (&str, &Value) {
+    fn told(self, alloc: Global) -> Answer {
+        let mut all = String::from_str(alloc, self.0)?;
+        self.1.write_to(alloc, &mut all)?;
+        Ok(all)
     }
 }
 
-/// `entry PLACE`: the name at a place and its text.
-fn entry(map: &NameMap<Value>, alloc: Global, place: usize) -> Result<Answer, AllocError> {
-    match map.entry(place) {
-        Some((name, text)) => {
-            let text = text.text(alloc)?;
-            Ok(Answer::Given(format!(in alloc; "{name}{}", text.as_str())?))
-        }
-        None => given(alloc, "none"),
-    }
-}
-
-/// `change NAME TEXT`: changes the text of a name where it stands.
-fn change(map: &mut NameMap<Value>, name: &str, new: Value) {
-    if let Some(text) = map.get_mut(name) {
-        *text = new;
-    }
-}
-
-/// `near PLACE NAME TEXT`: the same, of a name that is looked for at a place first.
-fn near(map: &mut NameMap<Value>, place: usize, name: &str, new: Value) {
-    if let Some(text) = map.get_mut_near(place, name) {
+/// Changes the text of a name where it stands, if there is one.
+fn change(place: Option<&mut Value>, new: Value) {
+    if let Some(text) = place {
         *text = new;
     }
 }
 
 /// What a call of one word answers. `thin PATTERN` removes the names that a pattern matches.
-fn of_one(
-    map: &mut NameMap<Value>,
-    alloc: Global,
-    call: &str,
-    word: &Text,
-) -> Result<Answer, AllocError> {
+fn of_one(map: &mut NameMap<Value>, alloc: Global, call: &str, word: &Text) -> Answer {
     match call {
-        "get" => get(map, alloc, word.as_str()),
-        "find" => find(map, alloc, word.as_str()),
-        "entry" => entry(map, alloc, place_of(word)),
-        "remove" => {
-            map.remove(word.as_str());
-            given(alloc, "-")
-        }
-        "thin" => {
-            map.remove_matching(word.as_str());
-            given(alloc, "-")
-        }
-        _ => no_call(alloc),
+        "get" => return map.get(word.as_str()).told(alloc),
+        "find" => return map.find(word.as_str()).told(alloc),
+        "entry" => return map.entry(place_of(word)).told(alloc),
+        "remove" => map.remove(word.as_str()),
+        "thin" => map.remove_matching(word.as_str()),
+        _ => return no_call(alloc),
     }
+    done(alloc)
 }
 
 /// What a call of a name and a text answers. `share` inserts a name whose text is shared.
-fn of_two(
-    map: &mut NameMap<Value>,
-    alloc: Global,
-    call: &str,
-    name: &Text,
-    text: Value,
-) -> Result<Answer, AllocError> {
+fn of_two(map: &mut NameMap<Value>, alloc: Global, call: &str, name: &Text, text: &Text) -> Answer {
     match call {
-        "insert" => done(alloc, map.insert(alloc, name.as_str(), text)),
-        "share" => done(alloc, map.insert_shared(alloc, name, text)),
-        "change" => {
-            change(map, name.as_str(), text);
-            given(alloc, "-")
+        "insert" => map.insert(alloc, name.as_str(), value_of(text)?)?,
+        "share" => map.insert_shared(alloc, name, value_of(text)?)?,
+        "change" => change(map.get_mut(name.as_str()), value_of(text)?),
+        _ => return no_call(alloc),
+    }
+    done(alloc)
+}
+
+/// What a call answers. `all NAME TEXT ..` inserts names together, and `near PLACE NAME TEXT`
+/// changes the text of a name that is looked for at a place first.
+fn answered(map: &mut NameMap<Value>, alloc: Global, call: &str, words: &[Text]) -> Answer {
+    match (call, words) {
+        ("all", _) => map.insert_all(alloc, pairs_of(alloc, words)?).told(alloc),
+        ("entries", []) => entries(map, alloc),
+        ("near", [place, name, text]) => {
+            change(
+                map.get_mut_near(place_of(place), name.as_str()),
+                value_of(text)?,
+            );
+            done(alloc)
         }
+        (_, [word]) => of_one(map, alloc, call, word),
+        (_, [name, text]) => of_two(map, alloc, call, name, text),
         _ => no_call(alloc),
     }
 }
 
-/// What a call answers. `all NAME TEXT ..` inserts names together.
-fn answered(
-    map: &mut NameMap<Value>,
-    alloc: Global,
-    call: &str,
-    words: &[Text],
-) -> Result<Answer, AllocError> {
-    match words {
-        _ if call == "all" => done(alloc, map.insert_all(alloc, pairs_of(alloc, words)?)),
-        [] if call == "entries" => entries(map, alloc),
-        [word] => of_one(map, alloc, call, word),
-        [name, text] => of_two(map, alloc, call, name, value_of(text)?),
-        [place, name, text] if call == "near" => {
-            near(map, place_of(place), name.as_str(), value_of(text)?);
-            given(alloc, "-")
-        }
-        _ => no_call(alloc),
-    }
-}
-
-/// What a call answers, by its words.
-fn answer(map: &mut NameMap<Value>, alloc: Global, words: &[Text]) -> Result<Answer, AllocError> {
-    match words {
-        [call, others @ ..] => answered(map, alloc, call.as_str(), others),
-        [] => no_call(alloc),
-    }
+/// What a call on a map answers.
+fn on_map(map: &mut NameMap<Value>, alloc: Global, call: &str) -> Answer {
+    let words = words_of(alloc, call)?;
+    let (call, words) = call_of(&words);
+    answered(map, alloc, call, words)
 }
 
 /// A map, and one that is kept.
@@ -166,25 +123,6 @@ impl Maps {
             kept: NameMap::new(alloc),
         }
     }
-
-    fn keep(&mut self, alloc: Global) -> Result<Answer, AllocError> {
-        self.kept = self.map.clone()?;
-        given(alloc, "-")
-    }
-
-    fn swap(&mut self, alloc: Global) -> Result<Answer, AllocError> {
-        swap(&mut self.map, &mut self.kept);
-        given(alloc, "-")
-    }
-
-    fn answered(&mut self, alloc: Global, call: &str) -> Result<Answer, AllocError> {
-        match call {
-            "keep" => self.keep(alloc),
-            "swap" => self.swap(alloc),
-            "same" => truth(alloc, self.map.same(&self.kept)),
-            _ => answer(&mut self.map, alloc, &words_of(alloc, call)?),
-        }
-    }
 }
 
 impl World for Maps {
@@ -193,7 +131,13 @@ impl World for Maps {
         Ok(())
     }
 
-    fn answer(&mut self, alloc: Global, call: &str) -> Result<String, AllocError> {
-        Ok(written(self.answered(alloc, call)?))
+    fn answer(&mut self, alloc: Global, call: &str) -> Answer {
+        match call {
+            "keep" => self.kept = self.map.clone()?,
+            "swap" => swap(&mut self.map, &mut self.kept),
+            "same" => return self.map.same(&self.kept).told(alloc),
+            _ => return on_map(&mut self.map, alloc, call),
+        }
+        done(alloc)
     }
 }

@@ -1,9 +1,9 @@
 //! Calls on a tree of interpreters by path.
-use crate::tree_rows::answers::{Answer, done, given, no_call, refused};
+use crate::answers::{Answer, Told, no_call};
 use crate::tree_rows::looks::{of_name, of_path};
-use crate::tree_rows::places::{alias_up, at_place, nothing};
-use crate::tree_rows::words::{number_of, place_of, words_of};
-use std::alloc::{AllocError, Global};
+use crate::tree_rows::places::{at_place, nothing};
+use crate::words::{number_of, place_of, words_of};
+use std::alloc::Global;
 use tcl_text::text::Text;
 use tcl_tree::alias::Alias;
 use tcl_tree::refusal::TreeError;
@@ -12,10 +12,8 @@ use tcl_value::value::Value;
 
 /// `nest PATH`: begins an evaluation.
 fn nest(tree: &mut Tree, path: &[Text]) -> Result<(), TreeError> {
-    match tree.nest(path) {
-        Ok(_) => Ok(()),
-        Err(refusal) => Err(refusal),
-    }
+    tree.nest(path)?;
+    Ok(())
 }
 
 /// Deletes a child while an evaluation is in progress in the interpreter at a path, and tells how
@@ -37,68 +35,58 @@ fn delete_within(
 }
 
 /// `delete-within PATH PARENT NAME`: the same. It answers `here` where the interpreter stands.
-fn within(
-    tree: &mut Tree,
-    alloc: Global,
-    path: &[Text],
-    parent: &Text,
-    name: &Text,
-) -> Result<Answer, AllocError> {
+fn within(tree: &mut Tree, alloc: Global, path: &[Text], parent: &Text, name: &Text) -> Answer {
     let parent = words_of(alloc, parent.as_str())?;
     match delete_within(tree, path, &parent, name) {
-        Ok(Some(levels)) => Ok(Answer::Given(format!(in alloc; "{levels} up")?)),
-        Ok(None) => given(alloc, "here"),
-        Err(refusal) => refused(alloc, &refusal),
+        Ok(Some(levels)) => format!(in alloc; "{levels} up"),
+        Ok(None) => String::from_str(alloc, "here"),
+        Err(refusal) => refusal.told(alloc),
     }
 }
 
 /// What a call of a path answers.
-fn of_one(tree: &mut Tree, alloc: Global, call: &str, path: &[Text]) -> Result<Answer, AllocError> {
+fn of_one(tree: &mut Tree, alloc: Global, call: &str, path: &[Text]) -> Answer {
     match call {
-        "charge" => done(alloc, tree.charge(path)),
-        "nest" => done(alloc, nest(tree, path)),
+        "charge" => tree.charge(path).told(alloc),
+        "nest" => nest(tree, path).told(alloc),
         _ => of_path(tree, alloc, call, path),
     }
 }
 
 /// `set PATH NAME`: sets a variable to the empty text.
-fn set(tree: &mut Tree, alloc: Global, path: &[Text], name: &Text) -> Result<Answer, AllocError> {
+fn set(tree: &mut Tree, alloc: Global, path: &[Text], name: &Text) -> Answer {
     match tree.frames_mut(path) {
-        Some(frames) => done(alloc, frames.set(alloc, name, Value::empty())),
-        None => refused(alloc, &TreeError::NoInterpreter),
+        Some(frames) => frames.set(alloc, name, Value::empty()).told(alloc),
+        None => TreeError::NoInterpreter.told(alloc),
     }
 }
 
 /// What a call of a path and a name answers.
-fn of_two(
-    tree: &mut Tree,
-    alloc: Global,
-    call: &str,
-    path: &[Text],
-    name: &Text,
-) -> Result<Answer, AllocError> {
+fn of_two(tree: &mut Tree, alloc: Global, call: &str, path: &[Text], name: &Text) -> Answer {
     match call {
-        "proc" => done(alloc, tree.set_proc(path, name.clone()?, nothing(alloc)?)),
-        "clear" => done(alloc, tree.clear_alias(path, name)),
-        "delete" => done(alloc, tree.delete(path, name)),
+        "proc" => {
+            let procedure = nothing(alloc)?;
+            tree.set_proc(path, name.clone()?, procedure).told(alloc)
+        }
+        "clear" => tree.clear_alias(path, name).told(alloc),
+        "delete" => tree.delete(path, name).told(alloc),
         "set" => set(tree, alloc, path, name),
         _ => of_name(tree, alloc, call, path, name),
     }
 }
 
-/// Makes a name at one path an alias whose target is at another.
+/// `between PATH NAME TARGET`: makes a name at one path an alias whose target is at another.
 fn alias_between(
     tree: &mut Tree,
     alloc: Global,
     path: &[Text],
     name: &Text,
-    target: &[Text],
-) -> Result<Answer, AllocError> {
+    target: &Text,
+) -> Answer {
+    let target = words_of(alloc, target.as_str())?;
     let words = Vec::<Value>::new(alloc);
-    done(
-        alloc,
-        tree.set_alias_between(alloc, path, name.clone()?, target, words),
-    )
+    tree.set_alias_between(alloc, path, name.clone()?, &target, words)
+        .told(alloc)
 }
 
 /// Makes a name an alias whose way leads so many levels up, and the names down.
@@ -107,12 +95,12 @@ fn alias_by(
     alloc: Global,
     path: &[Text],
     name: &Text,
-    up: usize,
-    down: &Text,
-) -> Result<Answer, AllocError> {
-    let down = words_of(alloc, down.as_str())?;
+    (up, down): (usize, &str),
+) -> Answer {
+    let down = words_of(alloc, down)?;
     let alias = Alias::new(alloc, up, down, Vec::<Value>::new(alloc))?;
-    done(alloc, tree.set_alias(alloc, path, name.clone()?, &alias))
+    tree.set_alias(alloc, path, name.clone()?, &alias)
+        .told(alloc)
 }
 
 /// What a call of a path, a name and another word answers: `create PATH NAME safe` makes a safe
@@ -122,23 +110,16 @@ fn of_three(
     alloc: Global,
     call: &str,
     path: &[Text],
-    words: (&Text, &Text),
-) -> Result<Answer, AllocError> {
-    let (name, other) = words;
+    (name, other): (&Text, &Text),
+) -> Answer {
     match call {
-        "create" => done(
-            alloc,
-            tree.create(alloc, path, name, other.as_str() == "safe"),
-        ),
-        "alias" => {
-            let alias = alias_up(alloc, place_of(other))?;
-            done(alloc, tree.set_alias(alloc, path, name.clone()?, &alias))
+        "create" => {
+            let is_safe = other.as_str() == "safe";
+            tree.create(alloc, path, name, is_safe).told(alloc)
         }
-        "rename" => done(alloc, tree.rename(path, name, other.clone()?)),
-        "between" => {
-            let target = words_of(alloc, other.as_str())?;
-            alias_between(tree, alloc, path, name, &target)
-        }
+        "alias" => alias_by(tree, alloc, path, name, (place_of(other), "")),
+        "rename" => tree.rename(path, name, other.clone()?).told(alloc),
+        "between" => alias_between(tree, alloc, path, name, other),
         _ => no_call(alloc),
     }
 }
@@ -153,29 +134,25 @@ fn of_below(
     path: &[Text],
     down: &[Text],
     words: &[Text],
-) -> Result<Answer, AllocError> {
-    match words {
-        [count] if call == "steps" => done(
-            alloc,
-            tree.set_limit(path, down, Some(number_of(count))),
-        ),
-        [count] if call == "levels" => done(
-            alloc,
-            tree.set_depth_limit(path, down, number_of(count)),
-        ),
-        [name, other] if call == "hide" => done(alloc, tree.hide(path, down, name, other.clone()?)),
-        [name, other] if call == "expose" => {
-            done(alloc, tree.expose(path, down, name, other.clone()?))
-        }
+) -> Answer {
+    match (call, words) {
+        ("steps", [count]) => tree
+            .set_limit(path, down, Some(number_of(count)))
+            .told(alloc),
+        ("levels", [count]) => tree
+            .set_depth_limit(path, down, number_of(count))
+            .told(alloc),
+        ("hide", [name, other]) => tree.hide(path, down, name, other.clone()?).told(alloc),
+        ("expose", [name, other]) => tree.expose(path, down, name, other.clone()?).told(alloc),
         _ => no_call(alloc),
     }
 }
 
 /// `at PATH CALL ..`: what a call answers by the place of the interpreter at a path.
-fn at(tree: &mut Tree, alloc: Global, path: &[Text], words: &[Text]) -> Result<Answer, AllocError> {
+fn at(tree: &mut Tree, alloc: Global, path: &[Text], words: &[Text]) -> Answer {
     match tree.place(path) {
         Some(place) => at_place(tree, alloc, place, words),
-        None => refused(alloc, &TreeError::NoInterpreter),
+        None => TreeError::NoInterpreter.told(alloc),
     }
 }
 
@@ -187,20 +164,20 @@ pub(crate) fn at_path(
     call: &str,
     path: &[Text],
     words: &[Text],
-) -> Result<Answer, AllocError> {
-    match words {
-        _ if call == "at" => at(tree, alloc, path, words),
-        [parent, name] if call == "delete-within" => within(tree, alloc, path, parent, name),
-        [name, up, down] if call == "alias-by" => {
-            alias_by(tree, alloc, path, name, place_of(up), down)
+) -> Answer {
+    match (call, words) {
+        ("at", _) => at(tree, alloc, path, words),
+        ("delete-within", [parent, name]) => within(tree, alloc, path, parent, name),
+        ("alias-by", [name, up, down]) => {
+            alias_by(tree, alloc, path, name, (place_of(up), down.as_str()))
         }
-        [] => of_one(tree, alloc, call, path),
-        [down, others @ ..] if matches!(call, "steps" | "levels" | "hide" | "expose") => {
+        ("steps" | "levels" | "hide" | "expose", [down, others @ ..]) => {
             let down = words_of(alloc, down.as_str())?;
             of_below(tree, alloc, call, path, &down, others)
         }
-        [name] => of_two(tree, alloc, call, path, name),
-        [name, other] => of_three(tree, alloc, call, path, (name, other)),
+        (_, []) => of_one(tree, alloc, call, path),
+        (_, [name]) => of_two(tree, alloc, call, path, name),
+        (_, [name, other]) => of_three(tree, alloc, call, path, (name, other)),
         _ => no_call(alloc),
     }
 }

@@ -2,8 +2,8 @@
 ghost use Rattle.tcl_core.specs.Paths.{Path};
 ghost use Rattle.tcl_tree.specs.TreeOf.{Names};
 
-use crate::tree_rows::answers::{Answer, done, given, list, no_call, truth};
-use crate::tree_rows::words::{number_of, place_of, words_of};
+use crate::answers::{Answer, Told, done, no_call};
+use crate::words::{number_of, place_of, words_of};
 use std::alloc::{AllocError, Global};
 use tcl_text::text::Text;
 use tcl_tree::alias::Alias;
@@ -24,131 +24,101 @@ pub(crate) fn nothing(alloc: Global) -> Result<Procedure, AllocError> {
 }
 
 /// `nest`: begins an evaluation, or is refused with how many levels up the limit is.
-fn nest(tree: &mut Tree, alloc: Global, place: Place) -> Result<Answer, AllocError>
+fn nest(tree: &mut Tree, alloc: Global, place: Place) -> Answer
     requires { (p : Path) × Names tree.old place p }
 {
     match tree.nest_at(place) {
-        Ok(()) => given(alloc, "-"),
-        Err(levels) => Ok(Answer::Refused(format!(in alloc; "{levels} up")?)),
+        Ok(()) => done(alloc),
+        Err(levels) => format!(in alloc; "{levels} up"),
     }
 }
 
 /// What a call of no words answers.
-fn of_none(tree: &mut Tree, alloc: Global, place: Place, call: &str) -> Result<Answer, AllocError>
+fn of_none(tree: &mut Tree, alloc: Global, place: Place, call: &str) -> Answer
     requires { (p : Path) × Names tree.old place p }
 {
     match call {
         "nest" => nest(tree, alloc, place),
-        "free-name" => given(alloc, tree.free_name_at(alloc, place)?.as_str()),
+        "free-name" => tree.free_name_at(alloc, place).told(alloc),
         _ => no_call(alloc),
     }
 }
 
 /// `set NAME`: sets a variable to the empty text.
-fn set(tree: &mut Tree, alloc: Global, place: Place, name: &Text) -> Result<Answer, AllocError>
+fn set(tree: &mut Tree, alloc: Global, place: Place, name: &Text) -> Answer
     requires { (p : Path) × Names tree.old place p }
 {
     match tree.frames_of(place) {
-        Some(frames) => done(alloc, frames.set(alloc, name, Value::empty())),
-        None => given(alloc, "none"),
+        Some(frames) => frames.set(alloc, name, Value::empty()).told(alloc),
+        None => String::from_str(alloc, "none"),
     }
 }
 
-/// `steps COUNT`: limits the steps.
-fn limit(tree: &mut Tree, alloc: Global, place: Place, count: u64) -> Result<Answer, AllocError>
-    requires { (p : Path) × Names tree.old place p }
-{
-    tree.set_limit_at(place, Some(count));
-    given(alloc, "-")
-}
-
-/// `last-names COUNT`: the last names of the path, so many at most.
-fn last_names(tree: &Tree, alloc: Global, place: Place, most: usize) -> Result<Answer, AllocError> {
-    list(alloc, &tree.last_names(alloc, place, most)?)
-}
-
 /// What a call of one word answers. `child NAME` tells whether there is such a child.
-fn of_one(
-    tree: &mut Tree,
-    alloc: Global,
-    place: Place,
-    call: &str,
-    word: &Text,
-) -> Result<Answer, AllocError>
+fn of_one(tree: &mut Tree, alloc: Global, place: Place, call: &str, word: &Text) -> Answer
     requires { (p : Path) × Names tree.old place p }
 {
     match call {
-        "alias" => done(
-            alloc,
-            tree.set_alias_at(place, word.clone()?, alias_up(alloc, 0)?),
-        ),
-        "proc" => done(
-            alloc,
-            tree.set_proc_at(place, word.clone()?, nothing(alloc)?),
-        ),
-        "clear" => done(alloc, tree.clear_alias_at(place, word)),
-        "remove" => done(alloc, tree.remove_at(place, word)),
-        "delete" => done(alloc, tree.delete_at(place, word)),
-        "levels" => done(alloc, tree.set_depth_limit_at(place, number_of(word))),
-        "steps" => limit(tree, alloc, place, number_of(word)),
+        "alias" => {
+            let alias = alias_up(alloc, 0)?;
+            tree.set_alias_at(place, word.clone()?, alias).told(alloc)
+        }
+        "proc" => {
+            let procedure = nothing(alloc)?;
+            tree.set_proc_at(place, word.clone()?, procedure)
+                .told(alloc)
+        }
+        "clear" => tree.clear_alias_at(place, word).told(alloc),
+        "remove" => tree.remove_at(place, word).told(alloc),
+        "delete" => tree.delete_at(place, word).told(alloc),
+        "levels" => tree.set_depth_limit_at(place, number_of(word)).told(alloc),
+        "steps" => {
+            tree.set_limit_at(place, Some(number_of(word)));
+            done(alloc)
+        }
         "set" => set(tree, alloc, place, word),
-        "child" => truth(alloc, tree.child_at(place, word).is_some()),
-        "last-names" => last_names(tree, alloc, place, place_of(word)),
+        "child" => tree.child_at(place, word).is_some().told(alloc),
+        "last-names" => tree.last_names(alloc, place, place_of(word)).told(alloc),
         _ => no_call(alloc),
     }
 }
 
-/// `reach UP DOWN`: whether an interpreter is where a way leads.
-fn reach(
-    tree: &Tree,
-    alloc: Global,
-    place: Place,
-    up: usize,
-    down: &[Text],
-) -> Result<Answer, AllocError>
-    requires { (p : Path) × Names tree.now place p }
-{
-    match tree.reach(place, up, down) {
-        Reach::There(_) => given(alloc, "there"),
-        Reach::Missing => given(alloc, "missing"),
-        Reach::Outside => given(alloc, "outside"),
+/// Whether an interpreter is where a way leads.
+impl Told for Reach {
+    fn told(self, alloc: Global) -> Answer {
+        let name = match self {
+            Reach::There(_) => "there",
+            Reach::Missing => "missing",
+            Reach::Outside => "outside",
+        };
+        name.told(alloc)
     }
 }
 
-/// What a call of two words answers. `create NAME safe` makes a safe child.
-fn of_two(
-    tree: &mut Tree,
-    alloc: Global,
-    place: Place,
-    call: &str,
-    words: (&Text, &Text),
-) -> Result<Answer, AllocError>
+/// What a call of two words answers. `create NAME safe` makes a safe child, and `reach UP DOWN`
+/// tells whether an interpreter is where a way leads.
+fn of_two(tree: &mut Tree, alloc: Global, place: Place, call: &str, words: (&Text, &Text)) -> Answer
     requires { (p : Path) × Names tree.old place p }
 {
     let (first, second) = words;
     match call {
-        "rename" => done(alloc, tree.rename_at(place, first, second.clone()?)),
-        "hide" => done(alloc, tree.hide_at(place, first, second.clone()?)),
-        "expose" => done(alloc, tree.expose_at(place, first, second.clone()?)),
-        "create" => done(
-            alloc,
-            tree.create_at(alloc, place, first, second.as_str() == "safe"),
-        ),
+        "rename" => tree.rename_at(place, first, second.clone()?).told(alloc),
+        "hide" => tree.hide_at(place, first, second.clone()?).told(alloc),
+        "expose" => tree.expose_at(place, first, second.clone()?).told(alloc),
+        "create" => {
+            let is_safe = second.as_str() == "safe";
+            tree.create_at(alloc, place, first, is_safe).told(alloc)
+        }
         "reach" => {
             let down = words_of(alloc, second.as_str())?;
-            reach(tree, alloc, place, place_of(first), &down)
+            tree.reach(place, place_of(first), &down).told(alloc)
         }
         _ => no_call(alloc),
     }
 }
 
 /// What a call answers of the interpreter that a place names.
-pub(crate) fn at_place(
-    tree: &mut Tree,
-    alloc: Global,
-    place: Place,
-    words: &[Text],
-) -> Result<Answer, AllocError>
+pub(crate) fn at_place(tree: &mut Tree, alloc: Global, place: Place, words: &[Text]) -> Answer
     requires { (p : Path) × Names tree.old place p }
 {
     match words {

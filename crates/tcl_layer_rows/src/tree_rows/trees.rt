@@ -1,17 +1,15 @@
 //! Trees of interpreters.
 //!
 //! A call is a list; one that changes the tree answers `-`, and one that is refused the refusal's
-//! name, and must leave the tree as it was. A path is the list of its names. `new` puts a new tree
-//! in its place.
+//! name. Any that does not say that it changes the tree must leave it as it was. A path is the list
+//! of its names. `new` puts a new tree in its place.
 //!
 //! There is a second tree, which is kept: `keep` makes it a copy of the first, `copy PATH` one of
 //! the interpreter at a path with all below it, `swap` exchanges the two, and `same` tells whether
 //! they are equal.
-use crate::tree_rows::answers::{
-    Answer, Told, count, done, given, no_call, refused, truth, written,
-};
+use crate::answers::{Answer, Told, done, no_call};
 use crate::tree_rows::paths::at_path;
-use crate::tree_rows::words::{number_of, place_of, style_of, words_of};
+use crate::words::{call_of, number_of, place_of, style_of, words_of};
 use row_runner::World;
 use std::alloc::{AllocError, Global};
 use std::mem::swap;
@@ -20,7 +18,7 @@ use tcl_tree::refusal::TreeError;
 use tcl_tree::tree::Tree;
 
 impl Told for TreeError {
-    fn show(&self, alloc: Global) -> Result<String, AllocError> {
+    fn told(self, alloc: Global) -> Answer {
         format!(in alloc; "{self:?}")
     }
 }
@@ -60,88 +58,73 @@ fn fill(tree: &mut Tree, alloc: Global, count: u64) -> Result<(), TreeError> {
     Ok(())
 }
 
-/// `run-limit COUNT`: limits the steps of the root, or not where the word is no number.
-fn limit_run(tree: &mut Tree, alloc: Global, word: &Text) -> Result<Answer, AllocError> {
-    match word.as_str().parse::<u64>() {
-        Ok(limit) => tree.set_run_limit(Some(limit)),
-        Err(_) => tree.set_run_limit(None),
-    }
-    given(alloc, "-")
-}
-
 /// What a call of no words answers. `break` marks the tree as broken, which `broken` tells, and
 /// `size` tells how many interpreters there are.
-fn of_none(tree: &mut Tree, alloc: Global, call: &str) -> Result<Answer, AllocError> {
+fn of_none(tree: &mut Tree, alloc: Global, call: &str) -> Answer {
     match call {
-        "size" => count(alloc, tree.table().len()),
-        "broken" => truth(alloc, tree.is_broken()),
+        "size" => tree.table().len().told(alloc),
+        "broken" => tree.is_broken().told(alloc),
         "break" => {
             tree.mark_broken();
-            given(alloc, "-")
+            done(alloc)
         }
         _ => no_call(alloc),
     }
 }
 
-/// What a call answers, by its words.
-fn answer(tree: &mut Tree, alloc: Global, words: &[Text]) -> Result<Answer, AllocError> {
-    match words {
-        [call] => of_none(tree, alloc, call.as_str()),
-        [call, word] if call.as_str() == "others" => {
-            done(alloc, make_others(tree, alloc, number_of(word)))
+/// What a call answers, by its words. `run-limit COUNT` limits the steps of the root, or not where
+/// the word is no number.
+fn answered(tree: &mut Tree, alloc: Global, call: &str, words: &[Text]) -> Answer {
+    match (call, words) {
+        ("others", [count]) => make_others(tree, alloc, number_of(count)).told(alloc),
+        ("fill", [count]) => fill(tree, alloc, number_of(count)).told(alloc),
+        ("run-limit", [count]) => {
+            tree.set_run_limit(count.as_str().parse::<u64>().ok());
+            done(alloc)
         }
-        [call, word] if call.as_str() == "fill" => done(alloc, fill(tree, alloc, number_of(word))),
-        [call, word] if call.as_str() == "run-limit" => limit_run(tree, alloc, word),
-        [call, path, others @ ..] => {
+        (_, []) => of_none(tree, alloc, call),
+        (_, [path, others @ ..]) => {
             let path = words_of(alloc, path.as_str())?;
-            at_path(tree, alloc, call.as_str(), &path, others)
+            at_path(tree, alloc, call, &path, others)
         }
-        [] => no_call(alloc),
     }
 }
 
-/// An answer, of a tree that was so before. A refused call changes nothing.
-fn checked(
-    tree: &Tree,
-    before: &Tree,
-    alloc: Global,
-    answer: Answer,
-) -> Result<Answer, AllocError> {
-    match answer {
-        Answer::Refused(_) if !tree.same(before) => given(alloc, "changed"),
-        answer => Ok(answer),
-    }
+/// Whether an answer says that the call changed the tree.
+fn is_change(call: &str, answer: &str) -> bool {
+    let is_deletion = call == "delete-within" && (answer == "here" || answer.ends_with(" up"));
+    is_deletion || answer == "-"
 }
 
-/// What a call on one tree answers.
-fn on_tree(tree: &mut Tree, alloc: Global, words: &[Text]) -> Result<Answer, AllocError> {
+/// What a call on one tree answers, which may change the tree if it says so.
+fn on_tree(tree: &mut Tree, alloc: Global, call: &str, words: &[Text]) -> Answer {
     match tree.copy_at(&[]) {
         Ok(before) => {
-            let answer = answer(tree, alloc, words)?;
-            checked(tree, &before, alloc, answer)
+            let answer = answered(tree, alloc, call, words)?;
+            if is_change(call, answer.as_str()) || tree.same(&before) {
+                return Ok(answer);
+            }
+            String::from_str(alloc, "changed")
         }
-        Err(refusal) => refused(alloc, &refusal),
+        Err(refusal) => refusal.told(alloc),
     }
-}
-
-/// A new tree.
-fn new(alloc: Global) -> Result<Tree, TreeError> {
-    Ok(Tree::new(alloc)?)
 }
 
 /// Puts a tree in another one's place.
-fn replace(
-    alloc: Global,
-    old: &mut Tree,
-    made: Result<Tree, TreeError>,
-) -> Result<Answer, AllocError> {
+fn replace(alloc: Global, old: &mut Tree, made: Result<Tree, TreeError>) -> Answer {
     match made {
         Ok(tree) => {
             *old = tree;
-            given(alloc, "-")
+            done(alloc)
         }
-        Err(refusal) => refused(alloc, &refusal),
+        Err(refusal) => refusal.told(alloc),
     }
+}
+
+/// A copy of the interpreter at a path, with all below it.
+fn copy_of(tree: &Tree, alloc: Global, path: &Text) -> Result<Tree, TreeError> {
+    let path = words_of(alloc, path.as_str())?;
+    tree.copy_at(&path)
 }
 
 /// A tree, and one that is kept.
@@ -167,48 +150,29 @@ impl Trees {
         })
     }
 
-    fn swap(&mut self, alloc: Global) -> Result<Answer, AllocError> {
-        swap(&mut self.tree, &mut self.kept);
-        given(alloc, "-")
-    }
-
-    /// What a call of no words answers.
-    fn of_none(&mut self, alloc: Global, call: &Text) -> Result<Answer, AllocError> {
-        match call.as_str() {
-            "new" => replace(alloc, &mut self.tree, new(alloc)),
-            "keep" => replace(alloc, &mut self.kept, self.tree.copy_at(&[])),
-            "swap" => self.swap(alloc),
-            "same" => truth(alloc, self.tree.same(&self.kept)),
-            name => of_none(&mut self.tree, alloc, name),
+    /// What a call answers. `style VERSION` makes a new tree with integers as that version of Tcl
+    /// reads them, `chain COUNT` one with so many interpreters, and `take PATH` makes the tree the
+    /// copy of an interpreter in it.
+    fn answered(&mut self, alloc: Global, call: &str, words: &[Text]) -> Answer {
+        match (call, words) {
+            ("new", []) => self.tree = Tree::new(alloc)?,
+            ("style", [version]) => self.tree = Tree::with_integers(alloc, style_of(version))?,
+            ("swap", []) => swap(&mut self.tree, &mut self.kept),
+            ("same", []) => return self.tree.same(&self.kept).told(alloc),
+            ("keep", []) => return replace(alloc, &mut self.kept, self.tree.copy_at(&[])),
+            ("chain", [count]) => {
+                return replace(alloc, &mut self.tree, chain(alloc, place_of(count)));
+            }
+            ("copy", [path]) => {
+                return replace(alloc, &mut self.kept, copy_of(&self.tree, alloc, path));
+            }
+            ("take", [path]) => {
+                let taken = copy_of(&self.tree, alloc, path);
+                return replace(alloc, &mut self.tree, taken);
+            }
+            _ => return on_tree(&mut self.tree, alloc, call, words),
         }
-    }
-
-    /// `style VERSION` makes a new tree with integers as that version of Tcl reads them.
-    fn renew(&mut self, alloc: Global, version: &Text) -> Result<Answer, AllocError> {
-        self.tree = Tree::with_integers(alloc, style_of(version))?;
-        given(alloc, "-")
-    }
-
-    /// What a call answers. `chain COUNT` makes a new tree, and `take PATH` makes the tree the copy
-    /// of an interpreter in it.
-    fn answered(&mut self, alloc: Global, words: &[Text]) -> Result<Answer, AllocError> {
-        match words {
-            [call] => self.of_none(alloc, call),
-            [call, version] if call.as_str() == "style" => self.renew(alloc, version),
-            [call, count] if call.as_str() == "chain" => {
-                replace(alloc, &mut self.tree, chain(alloc, place_of(count)))
-            }
-            [call, path] if call.as_str() == "copy" => {
-                let path = words_of(alloc, path.as_str())?;
-                replace(alloc, &mut self.kept, self.tree.copy_at(&path))
-            }
-            [call, path] if call.as_str() == "take" => {
-                let path = words_of(alloc, path.as_str())?;
-                let taken = self.tree.copy_at(&path);
-                replace(alloc, &mut self.tree, taken)
-            }
-            _ => on_tree(&mut self.tree, alloc, words),
-        }
+        done(alloc)
     }
 }
 
@@ -218,8 +182,9 @@ impl World for Trees {
         Ok(())
     }
 
-    fn answer(&mut self, alloc: Global, call: &str) -> Result<String, AllocError> {
+    fn answer(&mut self, alloc: Global, call: &str) -> Answer {
         let words = words_of(alloc, call)?;
-        Ok(written(self.answered(alloc, &words)?))
+        let (call, words) = call_of(&words);
+        self.answered(alloc, call, words)
     }
 }

@@ -3,12 +3,12 @@
 //! A call is a list; one that changes the frame answers `-`. In `value`, `assign` and their kin the
 //! name behind the base is the one that a refusal tells. There is a second frame, which `keep`
 //! makes a copy of the first; `same` tells whether they are equal.
-use crate::tree_rows::answers::{Answer, count, done, given, no_call, truth, written};
-use crate::tree_rows::chains::show_value;
-use crate::tree_rows::words::{value_of, values_of, words_of};
+use crate::answers::{Answer, Told, done, no_call};
+use crate::words::{call_of, value_of, words_of};
 use row_runner::World;
 use std::alloc::{AllocError, Global};
 use tcl_text::text::Text;
+use tcl_value::value::Value;
 use tcl_variables::access::{Part, elements_in, holds_in, value_in};
 use tcl_variables::comparing::Same;
 use tcl_variables::frame::{Change, Frame};
@@ -16,96 +16,77 @@ use tcl_variables::name::{Written, element_text, is_plain_name, read_name};
 use tcl_variables::variable::LinkTarget;
 
 /// What a call answers on the parts of a name.
-fn of_written(alloc: Global, call: &str, name: Written<'_>) -> Result<Answer, AllocError> {
+fn of_written(alloc: Global, call: &str, name: Written<'_>) -> Answer {
     match call {
-        "global" => truth(alloc, name.is_global),
-        "base" => given(alloc, name.base),
-        "key" => given(alloc, name.key.unwrap_or("none")),
+        "global" => name.is_global.told(alloc),
+        "base" => name.base.told(alloc),
+        "key" => name.key.told(alloc),
         _ => no_call(alloc),
     }
 }
 
 /// What a call answers on a name as it is read.
-fn of_name(alloc: Global, call: &str, name: &str) -> Result<Answer, AllocError> {
+fn of_name(alloc: Global, call: &str, name: &str) -> Answer {
     match read_name(name) {
         Some(written) => of_written(alloc, call, written),
-        None => given(alloc, "no name"),
+        None => String::from_str(alloc, "no name"),
     }
-}
-
-/// `element NAME KEY`: the name of an element.
-fn element(alloc: Global, name: &Text, key: &Text) -> Result<Answer, AllocError> {
-    given(alloc, element_text(alloc, name, key)?.as_str())
-}
-
-/// `link LOCAL NAME KEY`: makes a name a link to an element at level 0.
-fn link(
-    frame: &mut Frame,
-    alloc: Global,
-    local: &str,
-    place: LinkTarget,
-) -> Result<Answer, AllocError> {
-    frame.link(alloc, local, place)?;
-    given(alloc, "-")
 }
 
 /// The place of an element at level 0.
-fn element_at_0(name: Text, key: Text) -> LinkTarget {
-    LinkTarget {
+fn element_at_0(name: &Text, key: &Text) -> Result<LinkTarget, AllocError> {
+    Ok(LinkTarget {
         level: 0,
-        name,
-        key: Some(key),
-    }
+        name: name.clone()?,
+        key: Some(key.clone()?),
+    })
 }
 
 /// What a call of one word answers.
-fn of_one(frame: &mut Frame, alloc: Global, call: &str, word: &str) -> Result<Answer, AllocError> {
+fn of_one(frame: &Frame, alloc: Global, call: &str, word: &str) -> Answer {
+    let variable = frame.variable(word);
     match call {
-        "plain" => truth(alloc, is_plain_name(word)),
-        "holds" => truth(alloc, holds_in(frame.variable(word), Part::Whole)),
-        "array" => truth(
-            alloc,
-            elements_in(frame.variable(word), Part::Whole).is_some(),
-        ),
+        "plain" => is_plain_name(word).told(alloc),
+        "holds" => holds_in(variable, Part::Whole).told(alloc),
+        "array" => elements_in(variable, Part::Whole).is_some().told(alloc),
         _ => of_name(alloc, call, word),
     }
 }
 
-/// Changes a part of what a base stands for.
-fn change(
+/// What a call answers that changes what a base stands for.
+fn changed(
     frame: &mut Frame,
     alloc: Global,
-    base: &Text,
-    name: &Text,
+    (base, name): (&Text, &Text),
     part: Part<'_>,
     change: Change,
-) -> Result<Answer, AllocError> {
-    done(
-        alloc,
-        frame.change(alloc, base.as_str(), part, change, name),
-    )
+) -> Answer {
+    frame
+        .change(alloc, base.as_str(), part, change, name)
+        .told(alloc)
 }
 
 /// What a call of two words answers: `holds BASE KEY`, `element NAME KEY`, or one of a base and a
 /// name. `make` makes an array without elements.
-fn of_two(
-    frame: &mut Frame,
-    alloc: Global,
-    call: &str,
-    base: &Text,
-    word: &Text,
-) -> Result<Answer, AllocError> {
+fn of_two(frame: &mut Frame, alloc: Global, call: &str, base: &Text, word: &Text) -> Answer {
     let variable = frame.variable(base.as_str());
     match call {
-        "holds" => truth(alloc, holds_in(variable, Part::Element(word.as_str()))),
-        "element" => element(alloc, base, word),
-        "value" => show_value(alloc, value_in(variable, Part::Whole, word)),
+        "holds" => holds_in(variable, Part::Element(word.as_str())).told(alloc),
+        "element" => element_text(alloc, base, word).told(alloc),
+        "value" => value_in(variable, Part::Whole, word).told(alloc),
         "make" => {
             let none = Change::SetElements(Vec::new(alloc));
-            change(frame, alloc, base, word, Part::Whole, none)
+            changed(frame, alloc, (base, word), Part::Whole, none)
         }
         _ => no_call(alloc),
     }
+}
+
+/// `link LOCAL NAME KEY`: makes a name a link to an element at level 0.
+fn link(frame: &mut Frame, alloc: Global, local: &str, name: &Text, key: &Text) -> Answer {
+    frame
+        .link(alloc, local, element_at_0(name, key)?)
+        .told(alloc)
 }
 
 /// What a call of a base, a name and a key or a value answers.
@@ -114,18 +95,15 @@ fn of_three(
     alloc: Global,
     call: &str,
     (base, name, word): (&Text, &Text, &Text),
-) -> Result<Answer, AllocError> {
+) -> Answer {
     let part = Part::Element(word.as_str());
     match call {
-        "value" => show_value(alloc, value_in(frame.variable(base.as_str()), part, name)),
-        "unset" => change(frame, alloc, base, name, part, Change::Unset),
-        "link" => {
-            let place = element_at_0(name.clone()?, word.clone()?);
-            link(frame, alloc, base.as_str(), place)
-        }
+        "value" => value_in(frame.variable(base.as_str()), part, name).told(alloc),
+        "unset" => changed(frame, alloc, (base, name), part, Change::Unset),
+        "link" => link(frame, alloc, base.as_str(), name, word),
         "assign" => {
             let value = Change::Assign(value_of(word)?);
-            change(frame, alloc, base, name, Part::Whole, value)
+            changed(frame, alloc, (base, name), Part::Whole, value)
         }
         _ => no_call(alloc),
     }
@@ -133,38 +111,39 @@ fn of_three(
 
 /// What a call answers. `words` and `variables` tell how many there are, and
 /// `put BASE NAME KEY VALUE` sets an element.
-fn answered(
-    frame: &mut Frame,
-    alloc: Global,
-    call: &str,
-    words: &[Text],
-) -> Result<Answer, AllocError> {
-    match words {
-        [] if call == "words" => count(alloc, frame.words().len()),
-        [] if call == "variables" => count(alloc, frame.variables().len()),
-        [word] => of_one(frame, alloc, call, word.as_str()),
-        [base, word] => of_two(frame, alloc, call, base, word),
-        [base, name, word] => of_three(frame, alloc, call, (base, name, word)),
-        [base, name, key, value] if call == "put" => {
+fn answered(frame: &mut Frame, alloc: Global, call: &str, words: &[Text]) -> Answer {
+    match (call, words) {
+        ("words", []) => frame.words().len().told(alloc),
+        ("variables", []) => frame.variables().len().told(alloc),
+        ("put", [base, name, key, value]) => {
             let value = Change::Assign(value_of(value)?);
-            change(frame, alloc, base, name, Part::Element(key.as_str()), value)
+            changed(
+                frame,
+                alloc,
+                (base, name),
+                Part::Element(key.as_str()),
+                value,
+            )
         }
+        (_, [word]) => of_one(frame, alloc, call, word.as_str()),
+        (_, [base, word]) => of_two(frame, alloc, call, base, word),
+        (_, [base, name, word]) => of_three(frame, alloc, call, (base, name, word)),
         _ => no_call(alloc),
     }
 }
 
-/// What a call answers, by its words.
-fn answer(frame: &mut Frame, alloc: Global, words: &[Text]) -> Result<Answer, AllocError> {
-    match words {
-        [call, others @ ..] => answered(frame, alloc, call.as_str(), others),
-        [] => no_call(alloc),
-    }
+/// What a call on a frame answers.
+fn on_frame(frame: &mut Frame, alloc: Global, call: &str) -> Answer {
+    let words = words_of(alloc, call)?;
+    let (call, words) = call_of(&words);
+    answered(frame, alloc, call, words)
 }
 
 /// A frame of a call of one word.
 fn frame(alloc: Global) -> Result<Frame, AllocError> {
-    let words = words_of(alloc, "f")?;
-    Ok(Frame::new(alloc, values_of(alloc, &words)?))
+    let mut words = Vec::new(alloc);
+    words.push(Value::empty())?;
+    Ok(Frame::new(alloc, words))
 }
 
 /// A frame, and one that is kept.
@@ -189,19 +168,6 @@ impl Variables {
             kept: frame(alloc)?,
         })
     }
-
-    fn keep(&mut self, alloc: Global) -> Result<Answer, AllocError> {
-        self.kept = self.frame.clone()?;
-        given(alloc, "-")
-    }
-
-    fn answered(&mut self, alloc: Global, call: &str) -> Result<Answer, AllocError> {
-        match call {
-            "keep" => self.keep(alloc),
-            "same" => truth(alloc, self.frame.same(&self.kept)),
-            _ => answer(&mut self.frame, alloc, &words_of(alloc, call)?),
-        }
-    }
 }
 
 impl World for Variables {
@@ -210,7 +176,12 @@ impl World for Variables {
         Ok(())
     }
 
-    fn answer(&mut self, alloc: Global, call: &str) -> Result<String, AllocError> {
-        Ok(written(self.answered(alloc, call)?))
+    fn answer(&mut self, alloc: Global, call: &str) -> Answer {
+        match call {
+            "keep" => self.kept = self.frame.clone()?,
+            "same" => return self.frame.same(&self.kept).told(alloc),
+            _ => return on_frame(&mut self.frame, alloc, call),
+        }
+        done(alloc)
     }
 }

@@ -13,6 +13,14 @@ pub(crate) fn words_of(alloc: Global, call: &str) -> Result<Vec<Text>, AllocErro
     }
 }
 
+/// What is called, and the words behind it.
+pub(crate) fn call_of(words: &[Text]) -> (&str, &[Text]) {
+    match words {
+        [call, others @ ..] => (call.as_str(), others),
+        [] => ("", words),
+    }
+}
+
 /// The value of a text, which no row has too long for one.
 pub(crate) fn value_of(text: &Text) -> Result<Value, AllocError> {
     match Value::from_text(text.clone()?) {
@@ -24,7 +32,7 @@ pub(crate) fn value_of(text: &Text) -> Result<Value, AllocError> {
 /// The values of texts.
 pub(crate) fn values_of(alloc: Global, words: &[Text]) -> Result<Vec<Value>, AllocError> {
     let mut values = Vec::new(alloc);
-    for word in words {
+    'words: for word in words {
         values.push(value_of(word)?)?;
     }
     Ok(values)
@@ -48,18 +56,12 @@ pub(crate) fn pairs_of(alloc: Global, words: &[Text]) -> Result<Vec<(Text, Value
 
 /// The number that a word spells; one that spells none is a number that nothing has.
 pub(crate) fn number_of(word: &Text) -> u64 {
-    match word.as_str().parse::<u64>() {
-        Ok(number) => number,
-        Err(_) => u64::MAX,
-    }
+    word.as_str().parse::<u64>().unwrap_or(u64::MAX)
 }
 
 /// The place in a sequence that a word spells; one that spells none is a place that nothing has.
 pub(crate) fn place_of(word: &Text) -> usize {
-    match word.as_str().parse::<usize>() {
-        Ok(place) => place,
-        Err(_) => usize::MAX,
-    }
+    word.as_str().parse::<usize>().unwrap_or(usize::MAX)
 }
 
 /// How integers are read, by the version of Tcl: `8`, or else 9.
