@@ -20,9 +20,14 @@ use tcl_text::text::Text;
 /// keys came first.
 ///
 /// A clone shares the entries. A dict that isn't shared is changed in place.
-#[derive(Drop)]
 pub struct Dict {
     entries: Rc<Entries>,
+}
+
+impl Drop for Dict {
+    fn drop(self) {
+        let Dict { entries: _entries } = self;
+    }
 }
 
 impl Model for Dict {

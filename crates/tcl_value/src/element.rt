@@ -31,13 +31,25 @@ pub(crate) const MOST_DEPTH: u32 = 100;
 /// An element, which may be kept as the number, the list or the dict that its text writes. A text
 /// that was added to in place is kept with what it takes to know how many bytes write it.
 #[cycle(element)]
-#[derive(Drop)]
 pub(crate) enum Element {
     Text(Text),
     Grown(Rc<Measured>),
     Number(i64),
     List(Rc<Items>),
     Dict(Rc<Entries>),
+}
+
+impl Drop for Element {
+    #[cycle(element)]
+    fn drop(self) {
+        match self {
+            Element::Text(_text) => {}
+            Element::Grown(_grown) => {}
+            Element::Number(_n) => {}
+            Element::List(_items) => {}
+            Element::Dict(_entries) => {}
+        }
+    }
 }
 
 /// What becomes of the value at the end of a path of keys.

@@ -28,12 +28,23 @@ pub(crate) const MOST_WEIGHT: u128 = 16_777_217;
 /// The entries of a dict: keys in the order in which they came, and at the same places their
 /// values.
 #[cycle(element)]
-#[derive(Drop)]
 pub(crate) struct Entries {
     keys: IndexSet<Text>,
     values: Vec<Element>,
     weight: u128,
     depth: u32,
+}
+
+impl Drop for Entries {
+    #[cycle(element)]
+    fn drop(self) {
+        let Entries {
+            keys: _keys,
+            values: _values,
+            weight: _weight,
+            depth: _depth,
+        } = self;
+    }
 }
 
 impl Model for Entries {

@@ -22,11 +22,21 @@ const MOST_WEIGHT: u128 = 16_777_217;
 
 /// The elements of a list, the weight of their text and a bound on how deep lists stand in them.
 #[cycle(element)]
-#[derive(Drop)]
 pub(crate) struct Items {
     elements: Vec<Element>,
     weight: u128,
     depth: u32,
+}
+
+impl Drop for Items {
+    #[cycle(element)]
+    fn drop(self) {
+        let Items {
+            elements: _elements,
+            weight: _weight,
+            depth: _depth,
+        } = self;
+    }
 }
 
 impl Model for Items {

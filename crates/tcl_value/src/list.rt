@@ -27,9 +27,14 @@ use tcl_text::text::Text;
 /// A list of values, which contracts see as the list of their texts.
 ///
 /// A clone shares the elements. A list that isn't shared is changed in place.
-#[derive(Drop)]
 pub struct List {
     items: Rc<Items>,
+}
+
+impl Drop for List {
+    fn drop(self) {
+        let List { items: _items } = self;
+    }
 }
 
 impl Model for List {

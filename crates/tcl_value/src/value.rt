@@ -132,13 +132,24 @@ enum Form {
 }
 
 /// What a value's text was last read as.
-#[derive(Drop)]
 enum Kept {
     Nothing,
     Tcl8(i64),
     Tcl9(i64),
     List(List),
     Dict(Dict),
+}
+
+impl Drop for Kept {
+    fn drop(self) {
+        match self {
+            Kept::Nothing => {}
+            Kept::Tcl8(_n) => {}
+            Kept::Tcl9(_n) => {}
+            Kept::List(_list) => {}
+            Kept::Dict(_dict) => {}
+        }
+    }
 }
 
 /// A value of the language, which contracts see as its text: the list of its bytes in UTF-8, of
