@@ -1,7 +1,7 @@
-# The scripts of crates/benches in tclsh, each in an interpreter of its own; times go to
+# The benches' scripts (crates/trials/data) in tclsh, each in an interpreter of its own; times go to
 # standard error. A word names the file, scripts or commands (scripts where none does), and the
 # word full asks for the sizes of docs/PERFORMANCE.md.
-set folder [file join [file dirname [info script]] .. .. crates benches data]
+set folder [file join [file dirname [info script]] .. .. crates trials data]
 set name [expr {"commands" in $argv ? "commands" : "scripts"}]
 set channel [open [file join $folder $name.txt]]
 while {[gets $channel line] >= 0} {

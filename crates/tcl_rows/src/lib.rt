@@ -67,13 +67,13 @@ mod writing;
 
 use crate::scripts::{Beginnings, Scripts};
 use crate::world::Trees;
-use row_runner::{run, run_beginnings};
+use row_runner::{run as run_file, run_beginnings};
 use std::io;
 use tcl_text::integer::Integers;
 
 /// The rows of scripts that are read in a style of integers.
 fn run_scripts(rt: &HostRuntime, name: &str, integers: Integers) -> io::Result<()> {
-    run(rt, name, &mut Scripts { integers })?;
+    run_file(rt, name, &mut Scripts { integers })?;
     run_beginnings(rt, name, &mut Beginnings)?;
     Ok(())
 }
@@ -81,7 +81,7 @@ fn run_scripts(rt: &HostRuntime, name: &str, integers: Integers) -> io::Result<(
 /// The rows of scripts that end alike in both styles of integers.
 fn run_commands(rt: &HostRuntime) -> io::Result<()> {
     'styles: for integers in [Integers::Tcl8, Integers::Tcl9] {
-        run(rt, "commands", &mut Scripts { integers })?;
+        run_file(rt, "commands", &mut Scripts { integers })?;
     }
     Ok(())
 }
@@ -89,17 +89,21 @@ fn run_commands(rt: &HostRuntime) -> io::Result<()> {
 /// The rows that are put to trees. Those of want of memory come first, so that few allocations come
 /// before them.
 fn run_calls(rt: &HostRuntime, world: &mut Trees) -> io::Result<()> {
-    run(rt, "memory", world)?;
-    run(rt, "evaluations", world)?;
-    run(rt, "program", world)?;
-    run(rt, "replays", world)?;
+    run_file(rt, "memory", world)?;
+    run_file(rt, "evaluations", world)?;
+    run_file(rt, "program", world)?;
+    run_file(rt, "replays", world)?;
     Ok(())
 }
 
-fn main(rt: HostRuntime) -> io::Result<()> {
+/// Puts all rows, and says of each file how many of its rows were answered otherwise.
+///
+/// # Errors
+/// Out of memory, and what reading a file or writing to standard output may answer.
+pub fn run(rt: &HostRuntime) -> io::Result<()> {
     let mut world = Trees::new(rt.alloc())?;
-    run_calls(&rt, &mut world)?;
-    run_scripts(&rt, "scripts", Integers::Tcl8)?;
-    run_scripts(&rt, "tcl9", Integers::Tcl9)?;
-    run_commands(&rt)
+    run_calls(rt, &mut world)?;
+    run_scripts(rt, "scripts", Integers::Tcl8)?;
+    run_scripts(rt, "tcl9", Integers::Tcl9)?;
+    run_commands(rt)
 }

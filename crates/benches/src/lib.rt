@@ -113,10 +113,14 @@ fn chosen(rt: &HostRuntime) -> io::Result<Choice> {
     Ok(choice)
 }
 
-fn main(rt: HostRuntime) -> io::Result<()> {
-    let Choice { part, size } = chosen(&rt)?;
+/// Takes the times that the program's words ask for.
+///
+/// # Errors
+/// Out of memory, and what reading a file or writing to standard output or error may answer.
+pub fn measure(rt: &HostRuntime) -> io::Result<()> {
+    let Choice { part, size } = chosen(rt)?;
     match part {
-        Some(part) => part.measure(&rt, size),
-        None => measure_all(&rt, size),
+        Some(part) => part.measure(rt, size),
+        None => measure_all(rt, size),
     }
 }
