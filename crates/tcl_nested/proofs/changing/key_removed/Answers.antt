@@ -14,12 +14,12 @@ path-preserved c =
     let rest = drop (c.path.first-index + 1) c.args.path.now in
     let cut = drop_more c.args.path.now c.path.first-index item (omega arith) ∙ ap (λ x. x ∷ rest) (sym c.first-item.is) in
     let found = c.in_ok-dict.ensures.found in
-    let pushed : c.push.new.self.items ≡ c.path.steps.items ++ Entry c.dict.inside.entries.value c.in_ok-clone.field-0 ∷ [] = c.in_ok-push.ensures.items in
+    let pushed : c.push.new.self.items ≡ c.path.steps.items ++ Entry c.in_ok-dict.dict c.in_ok-clone.field-0 ∷ [] = c.in_ok-push.ensures.items in
     further (key_removed c.args.path.now c.args.key.now c.args.own) (key_removed (item ∷ rest) c.args.key.now c.path.at) (key_removed rest c.args.key.now c.in_ok-inner.inner)
     c.path.steps.items c.push.new.self.items (Entry c.in_ok-dict.dict item)
     (c.path.invariant ∙ ap (λ p. raised c.path.steps.items (key_removed p c.args.key.now c.path.at)) cut)
     (key_down item rest c.args.key.now c.path.at c.in_ok-inner.inner c.in_ok-dict.dict found.0 (sym (ap (known item) found.1) ∙ c.in_ok-inner.ensures.found))
-    (pushed ∙ ap (λ d. c.path.steps.items ++ Entry d c.in_ok-clone.field-0 ∷ []) c.dict.view_is ∙ ap (λ k. c.path.steps.items ++ Entry c.in_ok-dict.dict k ∷ []) c.in_ok-clone.ensures.cases)
+    (pushed ∙ ap (λ k. c.path.steps.items ++ Entry c.in_ok-dict.dict k ∷ []) c.in_ok-clone.ensures.cases)
 
 pub returns-in_err-remove_key-clause-refused : goal.returns-in_err-remove_key-clause-refused
 returns-in_err-remove_key-clause-refused c =
