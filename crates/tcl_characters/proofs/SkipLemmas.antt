@@ -1,8 +1,9 @@
 -- Bytes that are passed since none of them is the first of a key.
-use Rattle.std.proofs.Common.{◌≡◌, ℕ, ◌+◌, ◌<◌, ◌≤◌, Bool, cond, true, false, List, [], ◌∷◌, ◌++◌, length, take, drop, get_or, Some, None, refl, sym, ◌∙◌, ap, subst, arith, append_assoc, length-append, length-take, take-append-drop}
+use Rattle.std.proofs.Common.{◌≡◌, ℕ, ◌+◌, ◌<◌, ◌≤◌, Bool, cond, true, false, List, [], ◌∷◌, ◌++◌, length, take, drop, get_or, Some, None, IsTrue, not, nat_eq, refl, sym, ◌∙◌, ap, subst, arith, append_assoc, length-append, length-take, take-append-drop}
 use Rattle.std.specs.Char.{encode_utf8}
 use Rattle.std.specs.Str.{chars, IsUtf8, IsCharBoundary}
-use Rattle.std.proofs.lemmas.Bool.Decides.{Decides-eqb}
+use Rattle.std.proofs.lemmas.Bool.Decides.{Decides-eqb, nat_tests}
+use Rattle.std.proofs.lemmas.List.{get_or_append_left}
 use Rattle.std.proofs.lemmas.Str.{chars-append, encodes-chars, IsUtf8-take, IsCharBoundary-start}
 use Rattle.memchr.specs.Find.{Nowhere, Passes, is_byte}
 use Rattle.tcl_characters.specs.Texts.{text_of}
@@ -11,7 +12,7 @@ use Rattle.tcl_characters.specs.Mapping.{fits, fitting, mapped}
 use Rattle.tcl_characters.proofs.ByteLemmas.{occurs_from_split, fewer_bytes}
 use Rattle.tcl_characters.proofs.StandLemmas.{begins_split, NoShorter}
 use Rattle.tcl_characters.proofs.MapLemmas.{mapped_kept}
-use Rattle.tcl_characters.proofs.RunLemmas.{Kept}
+use Rattle.tcl_characters.proofs.RunLemmas.{Kept, same_absent}
 
 -- none of the bytes before a place is the first of the key
 abbrev pub NoLead : List ℕ → List ℕ → ℕ → Type 0
@@ -28,6 +29,14 @@ lead_shorter key text at v u some cut none f r e l =
     let none_more : length (text_of f) ≡ length (text_of f) + 0 = omega arith in
     let here : get_or text (length (text_of f)) 0 ≡ get_or key 0 0 = ap (λ i. get_or text i 0) none_more ∙ o.reads 0 some in
     none (length (text_of f)) (omega arith) (omega arith) ((Decides-eqb (get_or text (length (text_of f)) 0) (get_or key 0 0)).1 here)
+
+-- a key stands nowhere but where its first byte does
+pub other_lead : (key text : List ℕ) → IsUtf8 key → IsUtf8 text → 0 < length key → IsTrue (not (nat_eq (get_or text 0 0) (get_or key 0 0))) → begins (chars key) (chars text) ≡ false
+other_lead key text v u some apart =
+    same_absent key text v u (λ rest e. differs _ _ apart (ap (λ t. get_or t 0 0) e ∙ get_or_append_left key rest 0 0 some))
+  where
+    differs : (a b : ℕ) → IsTrue (not (nat_eq a b)) → a ≡ b → ⊥
+    differs a b h e = grind (arith, nat_tests)
 
 fits_none : (key cs : List ℕ) → ((rest : List ℕ) → cs ≡ key ++ rest → ⊥) → fits key cs ≡ false
 fits_none [] cs none = refl

@@ -1,6 +1,7 @@
 //! Texts in which others are put in the place of keys.
 ghost use Rattle.std.specs.Prelude.{◌≡◌, ℕ, suc, ◌<◌, ◌≤◌, List, [], ◌∷◌, ◌++◌, true, false, length};
-ghost use Rattle.std.specs.Prelude.{drop, IfOk, OnOk, IsErrOf, MatchOption, Some, None};
+ghost use Rattle.std.specs.Prelude.{drop, IfOk, IsTrue, OnOk, IsErrOf, MatchOption};
+ghost use Rattle.std.specs.Prelude.{Some, None};
 ghost use Rattle.std.specs.Str.{chars};
 ghost use Rattle.std.specs.String.{string_bytes};
 ghost use Rattle.tcl_characters.specs.Places.{begins};
@@ -49,12 +50,25 @@ fn fitting<'a, 'b>(mapping: &'b [Text], text: &'a str, nocase: bool) -> Option<(
     None
 }
 
+/// Whether a text's first byte differs from a key's: then the text doesn't begin with the key.
+fn begins_otherwise(text: &str, key: &str) -> bool
+    ensures { IsTrue result → begins (chars key.now) (chars text.now) ≡ false }
+{
+    match (text.as_bytes(), key.as_bytes()) {
+        ([first, ..], [wanted, ..]) => first != wanted,
+        _ => false,
+    }
+}
+
 /// What follows a key with which a text begins, where case counts.
 fn behind_same<'a>(text: &'a str, key: &str) -> Option<&'a str>
     ensures { MatchOption result (begins (chars key.now) (chars text.now) ≡ false)
         (λ rest. (begins (chars key.now) (chars text.now) ≡ true) ×
         (chars rest.now ≡ drop (length (chars key.now)) (chars text.now))) }
 {
+    if begins_otherwise(text, key) {
+        return None;
+    }
     text.strip_prefix(key)
 }
 
