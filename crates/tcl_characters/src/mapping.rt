@@ -1,7 +1,8 @@
 //! Texts in which others are put in the place of keys.
-ghost use Rattle.std.specs.Prelude.{◌≡◌, ℕ, suc, ◌<◌, ◌≤◌, List, [], ◌∷◌, ◌++◌, true, false, length};
-ghost use Rattle.std.specs.Prelude.{drop, IfOk, OnOk, IsErrOf, MatchOption, Some, None};
-ghost use Rattle.std.specs.Str.{chars};
+ghost use Rattle.std.specs.Prelude.{◌≡◌, ℕ, suc, ◌<◌, ◌≤◌, List, [], ◌∷◌, ◌++◌, true, false};
+ghost use Rattle.std.specs.Prelude.{length, drop, IfOk, OnOk, IsErrOf, IsFalse, IsTrue};
+ghost use Rattle.std.specs.Prelude.{MatchOption, Some, None};
+ghost use Rattle.std.specs.Str.{chars, IsUtf8};
 ghost use Rattle.std.specs.String.{string_bytes};
 ghost use Rattle.tcl_characters.specs.Places.{begins};
 ghost use Rattle.tcl_glob.specs.Patterns.{letters};
@@ -49,12 +50,25 @@ fn fitting<'a, 'b>(mapping: &'b [Text], text: &'a str, nocase: bool) -> Option<(
     None
 }
 
+/// Whether a text's first byte differs from a key's: then the text doesn't begin with the key.
+fn begins_otherwise(text: &str, key: &str) -> bool
+    ensures { IsTrue result → begins (chars key.now) (chars text.now) ≡ false }
+{
+    match (text.as_bytes(), key.as_bytes()) {
+        ([first, ..], [wanted, ..]) => first != wanted,
+        _ => false,
+    }
+}
+
 /// What follows a key with which a text begins, where case counts.
 fn behind_same<'a>(text: &'a str, key: &str) -> Option<&'a str>
     ensures { MatchOption result (begins (chars key.now) (chars text.now) ≡ false)
         (λ rest. (begins (chars key.now) (chars text.now) ≡ true) ×
         (chars rest.now ≡ drop (length (chars key.now)) (chars text.now))) }
 {
+    if begins_otherwise(text, key) {
+        return None;
+    }
     text.strip_prefix(key)
 }
 
@@ -91,18 +105,65 @@ fn behind_others<'a>(only_key: &str, text: &'a str) -> &'a str
     }
 }
 
+/// Whether a key begins with a byte. If not, it fits no text that begins with that byte.
+fn begins_with(key: &str, byte: u8) -> bool
+    ensures unfit { IsFalse result → (rest : List ℕ) → IsUtf8 (byte ∷ rest) →
+        fits (chars key.now) (chars (byte ∷ rest)) ≡ false }
+    ensures edge { IsTrue result → 128 ≤ byte → 192 ≤ byte }
+{
+    match key.as_bytes() {
+        [first, ..] => *first == byte,
+        [] => false,
+    }
+}
+
+/// Whether a key of a mapping begins with a byte. If not, none fits a text that begins with it.
+fn begins_some_key(mapping: &[Text], byte: u8) -> bool
+    ensures unfit { IsFalse result → (rest : List ℕ) → IsUtf8 (byte ∷ rest) →
+        fitting false mapping.now (chars (byte ∷ rest)) ≡ None }
+    ensures edge { IsTrue result → 128 ≤ byte → 192 ≤ byte }
+{
+    let mut left = mapping;
+    'keys: while let [key, _new, more @ ..] = left {
+        if begins_with(key.as_str(), byte) {
+            return true;
+        }
+        left = more;
+    }
+    false
+}
+
+/// What stands behind the bytes with which no key of a mapping begins, where case counts.
+fn behind_no_lead<'a>(mapping: &[Text], text: &'a str) -> &'a str
+    ensures { (front : List ℕ) × (text.now ≡ front ++ result.now) ×
+        (mapped false mapping.now (chars text.now) 0
+        ≡ front ++ mapped false mapping.now (chars result.now) 0) ×
+        (length (chars result.now) ≤ length (chars text.now)) }
+{
+    let bytes = text.as_bytes();
+    let mut at = 0;
+    'bytes: while at < bytes.len() {
+        if begins_some_key(mapping, bytes[at]) {
+            return &text[at..];
+        }
+        at += 1;
+    }
+    &text[text.len()..]
+}
+
 /// What stands behind places at which no key of a mapping fits, as far as one byte tells it: where
-/// the mapping has one key alone, and case counts.
+/// case counts.
 fn behind_unfit<'a>(mapping: &[Text], text: &'a str, nocase: bool) -> &'a str
     ensures { (front : List ℕ) × (text.now ≡ front ++ result.now) ×
         (mapped nocase mapping.now (chars text.now) 0
         ≡ front ++ mapped nocase mapping.now (chars result.now) 0) ×
         (length (chars result.now) ≤ length (chars text.now)) }
 {
-    if let [key, _new] = mapping {
-        if !nocase {
+    if !nocase {
+        if let [key, _new] = mapping {
             return behind_others(key.as_str(), text);
         }
+        return behind_no_lead(mapping, text);
     }
     text
 }
