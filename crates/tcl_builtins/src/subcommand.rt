@@ -5,7 +5,7 @@ ghost use Rattle.tcl_language.specs.Data.{dict_subcommands, subcommand_in};
 ghost use Rattle.tcl_builtins.specs.Subcommands.{outcome_or, subcommand_of};
 
 /// A subcommand of `dict` that is a function of its words.
-#[derive(Clone, Copy, Debug, Drop)]
+#[derive(Clone, Copy, Drop)]
 pub enum Subcommand {
     Create,
     Get,

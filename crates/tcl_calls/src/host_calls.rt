@@ -16,7 +16,7 @@ use tcl_text::text::Text;
 use tcl_value::value::Value;
 
 /// A command that makes one request of the host, and gives what comes of it.
-#[derive(Clone, Copy, Debug, PartialEq, Eq)]
+#[derive(Clone, Copy)]
 pub enum HostCommand {
     /// `open name ?mode?`
     Open,

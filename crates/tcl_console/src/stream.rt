@@ -3,7 +3,7 @@ ghost use Rattle.std.specs.Prelude.{◌≡◌};
 ghost use Rattle.tcl_console.specs.Streams.{stream_of};
 
 /// What a channel leads to.
-#[derive(Clone, Copy, Debug, Drop)]
+#[derive(Clone, Copy, Drop)]
 pub enum Stream {
     /// The standard input: `stdin`.
     Input,

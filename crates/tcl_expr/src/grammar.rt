@@ -9,7 +9,7 @@ ghost use Rattle.tcl_expr.specs.Misfits.{Fails};
 ghost use Rattle.tcl_expr.specs.declared.grammar.Misfit.{Misfit};
 
 /// Why a token doesn't fit behind those before it.
-#[derive(Clone, Copy, Debug, PartialEq, Eq)]
+#[derive(Clone, Copy)]
 pub enum Misfit {
     /// No expression begins so (211).
     Syntax,

@@ -1,7 +1,7 @@
 //! The operators and functions of expressions.
 
 /// An operator before its operand, as `expr(n)` has it.
-#[derive(Clone, Copy, Debug, PartialEq, Eq)]
+#[derive(Clone, Copy)]
 pub enum UnaryOperator {
     /// `-x`
     Negate,
@@ -14,7 +14,7 @@ pub enum UnaryOperator {
 }
 
 /// An operator between its operands, tightest first, as `expr(n)` has it.
-#[derive(Clone, Copy, Debug, PartialEq, Eq)]
+#[derive(Clone, Copy)]
 pub enum BinaryOperator {
     /// `**`, which groups to the right
     Power,
@@ -65,7 +65,7 @@ pub enum BinaryOperator {
 }
 
 /// A function of whole numbers.
-#[derive(Clone, Copy, Debug, PartialEq, Eq)]
+#[derive(Clone, Copy)]
 pub enum Function {
     /// `abs(x)`
     Absolute,

@@ -18,7 +18,7 @@ use tcl_tree::tree::{Place, Tree};
 use tcl_value::value::Value;
 
 /// Whether a command is hidden or exposed.
-#[derive(Clone, Copy, Debug, Drop)]
+#[derive(Clone, Copy, Drop)]
 pub enum Hiding {
     /// A command becomes a hidden one.
     Hide,

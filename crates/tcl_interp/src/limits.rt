@@ -27,7 +27,7 @@ use tcl_tree::tree::{Place, Tree};
 use tcl_value::value::Value;
 
 /// What a limit is of.
-#[derive(Clone, Copy, Debug, Drop)]
+#[derive(Clone, Copy, Drop)]
 pub enum LimitOf {
     Steps,
     Depth,

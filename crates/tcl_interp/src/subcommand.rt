@@ -9,7 +9,7 @@ ghost use Rattle.tcl_interp.specs.Subcommands.{talk_of, rule_of, subcommand_of};
 ghost use Rattle.tcl_interp.specs.Subcommands.{child_program_named};
 
 /// A subcommand that both commands have: it is about one interpreter.
-#[derive(Clone, Copy, Debug, Drop)]
+#[derive(Clone, Copy, Drop)]
 pub enum Subcommand {
     Eval,
     Alias,
@@ -24,7 +24,7 @@ pub enum Subcommand {
 }
 
 /// A subcommand that `interp` alone has.
-#[derive(Clone, Copy, Debug, Drop)]
+#[derive(Clone, Copy, Drop)]
 pub enum TreeSubcommand {
     Create,
     Delete,
@@ -34,7 +34,7 @@ pub enum TreeSubcommand {
 }
 
 /// A subcommand of `interp`.
-#[derive(Clone, Copy, Debug, Drop)]
+#[derive(Clone, Copy, Drop)]
 pub enum InterpSubcommand {
     Tree(TreeSubcommand),
     Shared(Subcommand),

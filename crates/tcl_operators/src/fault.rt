@@ -5,6 +5,7 @@ ghost use Rattle.tcl_operators.specs.Messages.{symbol_of, arithmetic_message, me
 ghost use Rattle.tcl_operators.specs.declared.fault.ApplyError.TheVariants.{Memory};
 
 use std::alloc::{AllocError, Global};
+use std::fmt;
 use tcl_arithmetic::ArithmeticFault;
 use tcl_expr::operator::{BinaryOperator, Function, UnaryOperator};
 use tcl_text::boolean::not_boolean_message;
@@ -15,7 +16,7 @@ use tcl_text::text::Text;
 use thiserror::Error;
 
 /// What is applied to values.
-#[derive(Clone, Copy, Debug, PartialEq, Eq)]
+#[derive(Clone, Copy)]
 pub enum Operator {
     /// An operator before its operand.
     Unary(UnaryOperator),
@@ -25,8 +26,14 @@ pub enum Operator {
     Function(Function),
 }
 
+impl fmt::Debug for Operator {
+    fn fmt<W: fmt::Write>(&self, f: &mut fmt::Formatter<W>) -> fmt::Result {
+        f.write_str(self.symbol())
+    }
+}
+
 /// Why values have no result.
-#[derive(Debug, Drop, Error, PartialEq)]
+#[derive(Debug, Drop, Error)]
 pub enum OperatorFault {
     /// 112: an operand is an integer text whose number takes more than 64 bits.
     #[error("112: {}", TOO_LARGE)]
@@ -46,7 +53,7 @@ pub enum OperatorFault {
 }
 
 /// Why nothing was computed.
-#[derive(Debug, Drop, Error, PartialEq)]
+#[derive(Debug, Drop, Error)]
 pub enum ApplyError {
     /// Memory ran out.
     #[error("{}", OUT_OF_MEMORY)]

@@ -5,7 +5,7 @@ ghost use Rattle.tcl_operators.specs.Kinds.{kind_of};
 use tcl_expr::operator::BinaryOperator;
 
 /// An operator that makes a whole number of two.
-#[derive(Clone, Copy, Debug, PartialEq, Eq)]
+#[derive(Clone, Copy)]
 pub enum Arithmetic {
     /// A product of so many equal factors.
     Power,
@@ -32,7 +32,7 @@ pub enum Arithmetic {
 }
 
 /// A question about the order of two values.
-#[derive(Clone, Copy, Debug, PartialEq, Eq)]
+#[derive(Clone, Copy)]
 pub enum Comparison {
     /// Whether the first comes before the second.
     Less,
@@ -49,7 +49,7 @@ pub enum Comparison {
 }
 
 /// What an operator does with its operands.
-#[derive(Clone, Copy, Debug, PartialEq, Eq)]
+#[derive(Clone, Copy)]
 pub enum Kind {
     /// It computes with whole numbers.
     Arithmetic(Arithmetic),

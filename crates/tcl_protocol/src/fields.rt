@@ -18,7 +18,7 @@ use std::alloc::Global;
 use tcl_text::text::Text;
 
 /// The fields that messages have.
-#[derive(Clone, Copy, Debug, PartialEq, Eq)]
+#[derive(Clone, Copy)]
 pub enum Field {
     Id,
     Do,
@@ -44,7 +44,7 @@ pub enum Field {
 }
 
 /// What can stand in a field.
-#[derive(Clone, Copy, Debug, PartialEq, Eq)]
+#[derive(Clone, Copy)]
 pub enum FieldType {
     /// A number from 0 to 18446744073709551615.
     Number,

@@ -6,7 +6,7 @@ ghost use Rattle.tcl_protocol.specs.Names.{fields_of, kind_name};
 use crate::fields::Field;
 
 /// What messages do.
-#[derive(Clone, Copy, Debug, PartialEq, Eq)]
+#[derive(Clone, Copy)]
 pub enum Kind {
     MakeTree,
     DropTree,

@@ -108,7 +108,7 @@ pub struct PutFile {
 }
 
 /// A channel that scripts write to.
-#[derive(Clone, Copy, Debug, PartialEq, Eq)]
+#[derive(Clone, Copy)]
 pub enum Channel {
     /// `stdout`.
     Output,
@@ -159,7 +159,7 @@ pub struct Watch {
 }
 
 /// Two saved interpreters are compared.
-#[derive(Clone, Copy, Debug)]
+#[derive(Clone, Copy)]
 pub struct Compare {
     /// The number of the one.
     pub saved: u64,
@@ -168,7 +168,7 @@ pub struct Compare {
 }
 
 /// A record is replayed to a saved interpreter.
-#[derive(Clone, Copy, Debug)]
+#[derive(Clone, Copy)]
 pub struct Replay {
     /// The number of the saved interpreter.
     pub saved: u64,

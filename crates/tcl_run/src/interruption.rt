@@ -9,7 +9,7 @@ use tcl_flow::stop::Stop;
 use tcl_value::value::Value;
 
 /// What cuts an evaluation off from outside its tree.
-#[derive(Clone, Copy, Debug, Drop)]
+#[derive(Clone, Copy, Drop)]
 pub enum Cause {
     /// A stop that names an interpreter above the tree.
     Above,

@@ -9,7 +9,7 @@ use tcl_value::value::Value;
 use tcl_words::refusal::{Refusal, bad_option, wrong_arguments};
 
 /// What is looked for in a list, and what is told of it.
-#[derive(Clone, Copy, Debug, Drop)]
+#[derive(Clone, Copy, Drop)]
 pub struct Search {
     /// An element has to be the pattern, not only to match it.
     pub exact: bool,

@@ -8,7 +8,7 @@ use tcl_value::value::Value;
 use tcl_words::refusal::{Refusal, bad_option};
 
 /// How a list is put in order.
-#[derive(Clone, Copy, Debug, Drop)]
+#[derive(Clone, Copy, Drop)]
 pub struct Sorting {
     /// By the integers of the elements, not by their texts.
     pub by_number: bool,

@@ -18,7 +18,7 @@ use tcl_text::text::Text;
 use tcl_value::value::ValueError;
 
 /// How far an evaluation came.
-#[derive(Clone, Copy, Debug)]
+#[derive(Clone, Copy)]
 pub enum Outcome {
     /// 0: the script completed, by an ordinary result or otherwise.
     Done,

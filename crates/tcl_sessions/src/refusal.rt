@@ -15,7 +15,7 @@ use tcl_tree::refusal::TreeError;
 use tcl_value::value::ValueError;
 
 /// Why a call did nothing.
-#[derive(Clone, Copy, Debug)]
+#[derive(Clone, Copy)]
 pub enum Refusal {
     /// 101: an open brace of a list has no close brace.
     UnmatchedBrace,

@@ -16,7 +16,7 @@ use tcl_words::answer::Answer;
 use tcl_words::refusal::{Refusal, bad_option, wrong_arguments};
 
 /// What a text may be.
-#[derive(Clone, Copy, Debug)]
+#[derive(Clone, Copy)]
 pub enum Kind {
     /// An integer of 64 bits.
     Integer,

@@ -4,7 +4,7 @@ ghost use Rattle.tcl_strings.specs.Subcommands.{part_of, test_of, making_of, cha
 ghost use Rattle.tcl_strings.specs.Subcommands.{subcommand_of};
 
 /// A subcommand of `string`.
-#[derive(Clone, Copy, Debug)]
+#[derive(Clone, Copy)]
 pub enum Subcommand {
     Length,
     Index,

@@ -32,7 +32,7 @@ mod variables;
 
 /// An interpreter that is reached with no walk along its path: its key. Where an evaluation is in
 /// progress in it, it keeps its key also when it is deleted.
-#[derive(Clone, Copy, Debug, Drop)]
+#[derive(Clone, Copy, Drop)]
 pub struct Place {
     key: usize,
 }

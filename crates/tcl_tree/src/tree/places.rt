@@ -8,7 +8,7 @@ use tcl_interpreter::node::Node;
 use tcl_text::text::Text;
 
 /// What a way of levels up and names down leads to.
-#[derive(Clone, Copy, Debug, Drop)]
+#[derive(Clone, Copy, Drop)]
 pub enum Reach {
     /// An interpreter.
     There(Place),
