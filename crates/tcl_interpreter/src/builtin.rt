@@ -10,7 +10,7 @@ use std::alloc::{AllocError, Global};
 use tcl_text::text::Text;
 
 /// A built-in command: one of the language, or, from `Open` on, one that reaches the host.
-#[derive(Clone, Copy, Drop)]
+#[derive(Clone, Copy, PartialEq, Eq, Drop)]
 pub enum Builtin {
     Set,
     Unset,
