@@ -6,4 +6,4 @@ use Rattle.tcl_commands.specs.Parameters.{parameters_from}
 use Rattle.tcl_commands.proofs.definitions.read_parameters.Given as goal
 
 abbrev pub invariant-texts : goal.invariant-texts
-invariant-texts l = (k : List Parameter → Program) → parameters_from l.fn.text k ≡ parameters (drop l.index l.texts-inside.items.value) l.made.items k
+invariant-texts l = (k : List Parameter → Program) → parameters_from l.fn.text k ≡ parameters (drop l.index l.texts) l.made.items k
