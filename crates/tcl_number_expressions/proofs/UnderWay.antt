@@ -23,7 +23,7 @@ use Rattle.tcl_expr.specs.declared.tree.Node.TheVariants as node
 use Rattle.tcl_expression_evaluation.specs.Computations.{Computation, substitute, operand, and_then}
 use Rattle.tcl_expression_evaluation.specs.Steps.{doing, goes, from, top, below}
 use Rattle.tcl_expression_evaluation.proofs.Going.{done_at, done_past}
-use Rattle.tcl_number_expressions.specs.AtHand.{comes_to, given, text_read, variable_value, short_text, ReadAs, Brings, IsNumberAtHand}
+use Rattle.tcl_number_expressions.specs.AtHand.{comes_to, given, text_read, variable_value, short_text, ReadAs, Brings, IsNumberAtHand, steps_of_two}
 use Rattle.tcl_number_expressions.proofs.Waiting.{none_wait, pushed, popped}
 
 -- ## Steps
@@ -133,3 +133,23 @@ end frames style code i numbers left x u past is = let p = popped style u.texts 
 pub ends : (r : Option ℤ) (frames : Levels) (style : Integers) (code : List Node) (i : ℕ) (numbers left : List ℤ) → UnderWay frames style code i numbers → length code ≤ i → numbers ≡ left ++ option_to_list r → IfSome r (λ n. IsNumberAtHand frames style code n)
 ends (Some n) frames style code i numbers left u past is = end frames style code i numbers left n u past is
 ends None frames style code i numbers left u past is = tt
+
+-- ## Two operands and an operator
+
+two_read : (frames : Levels) (style : Integers) (l r : Leaf) (o : BinaryOperator) (a b : Bytes) (x y n : ℤ) →
+    ((next : Bytes → Computation) → comes_to frames (operand l next) ≡ comes_to frames (next a)) → int_of style a ≡ Ok x →
+    ((next : Bytes → Computation) → comes_to frames (operand r next) ≡ comes_to frames (next b)) → int_of style b ≡ Ok y → FitsSigned w64 n →
+    ((style : Integers) (a b : Bytes) → int_of style a ≡ Ok x → int_of style b ≡ Ok y → apply_binary style o a b ≡ Ok (signed_decimal n)) → IsNumberAtHand frames style (steps_of_two l o r) n
+two_read frames style l r o a b x y n left reads right reads' fits made =
+    let code = steps_of_two l o r in
+    let u = goes_on frames style code 0 (node.Operand l) [] [] (x ∷ []) x (begins frames style code [] refl) (omega (arith)) refl (λ texts wait. brought frames style l texts [] a x wait left reads) refl in
+    let v = goes_on frames style code 1 (node.Operand r) (x ∷ []) (x ∷ []) (x ∷ y ∷ []) y u (omega (arith)) refl (λ texts wait. brought frames style r texts (x ∷ []) b y wait right reads') refl in
+    let w = goes_on frames style code 2 (node.Binary o) (x ∷ y ∷ []) [] (n ∷ []) n v (omega (arith)) refl (λ texts wait. two_gone frames style o texts (x ∷ y ∷ []) (x ∷ []) [] x y n wait refl refl fits made) refl in
+    end frames style code 3 (n ∷ []) [] n w (omega (arith)) refl
+
+pub two_computed : (found : Option ℤ) (frames : Levels) (style : Integers) (l r : Leaf) (o : BinaryOperator) (a b : Bytes) (x y : ℤ) →
+    ((next : Bytes → Computation) → comes_to frames (operand l next) ≡ comes_to frames (next a)) → int_of style a ≡ Ok x →
+    ((next : Bytes → Computation) → comes_to frames (operand r next) ≡ comes_to frames (next b)) → int_of style b ≡ Ok y → IfSome found (λ n. FitsSigned w64 n) →
+    IfSome found (λ n. (style : Integers) (a b : Bytes) → int_of style a ≡ Ok x → int_of style b ≡ Ok y → apply_binary style o a b ≡ Ok (signed_decimal n)) → IfSome found (λ n. IsNumberAtHand frames style (steps_of_two l o r) n)
+two_computed (Some n) frames style l r o a b x y left reads right reads' fits made = two_read frames style l r o a b x y n left reads right reads' fits made
+two_computed None frames style l r o a b x y left reads right reads' fits made = tt

@@ -10,7 +10,10 @@ use Rattle.tcl_value.specs.Reading.{int_of}
 use Rattle.tcl_variables.specs.declared.fault.FrameFault.{FrameFault}
 use Rattle.tcl_frames.specs.Places.{Levels}
 use Rattle.tcl_frames.specs.Chain.{read}
+use Rattle.tcl_expr.specs.declared.operator.BinaryOperator.{BinaryOperator}
+use Rattle.tcl_expr.specs.declared.token.Leaf.{Leaf}
 use Rattle.tcl_expr.specs.declared.tree.Node.{Node}
+use Rattle.tcl_expr.specs.declared.tree.Node.TheVariants as node
 use Rattle.tcl_expression_evaluation.specs.Computations.{Computation, value, refused, substitute}
 use Rattle.tcl_expression_evaluation.specs.Steps.{Mode, doing, does, from}
 
@@ -48,6 +51,11 @@ IsNumberAtHand frames style code n = (text : Bytes) ×
     (comes_to frames (from style code 0 []) ≡ Some text) × (int_of style text ≡ Ok n)
 
 -- ## What the functions do
+
+-- the steps of an expression of two operands and an operator
+abbrev pub steps_of_two : Leaf → BinaryOperator → Leaf → List Node
+steps_of_two left operator right =
+    node.Operand left ∷ node.Operand right ∷ node.Binary operator ∷ []
 
 -- each text reads as the number at its place
 unfoldable pub ReadAs : Integers → List Bytes → List ℤ → Type 0

@@ -7,7 +7,7 @@ ghost use Rattle.tcl_value.specs.Limits.{Bytes};
 ghost use Rattle.tcl_value.specs.Reading.{int_of};
 ghost use Rattle.tcl_operators.specs.Apply.{apply_unary, apply_binary};
 ghost use Rattle.tcl_expression_evaluation.specs.Computations.{Computation, operand};
-ghost use Rattle.tcl_number_expressions.specs.AtHand.{comes_to, IsNumberAtHand};
+ghost use Rattle.tcl_number_expressions.specs.AtHand.{comes_to, IsNumberAtHand, steps_of_two};
 ghost use Rattle.tcl_number_expressions.specs.AtHand.{ReadAs, Brings};
 
 use arrayvec::ArrayVec;
@@ -31,7 +31,43 @@ pub fn number_at_hand(frames: &Frames, style: Integers, tree: &ExprTree) -> Opti
     ensures { IfSome result
         (λ n. IsNumberAtHand frames.now.frames style tree.now.nodes.items n) }
 {
-    number_of_steps(frames, style, tree.nodes.as_slice())
+    let nodes = tree.nodes.as_slice();
+    if let Some((left, operator, right)) = operator_between(nodes) {
+        return number_of_two(frames, style, left, operator, right);
+    }
+    number_of_steps(frames, style, nodes)
+}
+
+/// The two operands and the operator that the steps are, if they are no more.
+fn operator_between(nodes: &[Node]) -> Option<(&Leaf, BinaryOperator, &Leaf)>
+    ensures { IfSome result (λ found.
+        nodes.now ≡ steps_of_two found.0.now found.1 found.2.now) }
+{
+    let [first, second, third] = nodes else {
+        return None;
+    };
+    match (first, second, third) {
+        (Node::Operand(left), Node::Operand(right), Node::Binary(operator)) => {
+            Some((left, *operator, right))
+        }
+        _ => None,
+    }
+}
+
+/// The number that an operator makes of two operands, where both are numbers at hand.
+fn number_of_two(
+    frames: &Frames,
+    style: Integers,
+    left: &Leaf,
+    operator: BinaryOperator,
+    right: &Leaf,
+) -> Option<i64>
+    ensures { IfSome result (λ n. IsNumberAtHand frames.now.frames style
+        (steps_of_two left.now operator right.now) n) }
+{
+    let x = value_at_hand(frames, left)?.int(style).ok()?;
+    let y = value_at_hand(frames, right)?.int(style).ok()?;
+    apply_to_numbers(operator, x, y)
 }
 
 /// The number that steps come to, one after another.
