@@ -2,6 +2,7 @@
 ghost use Rattle.std.specs.Prelude.{◌≡◌, IfOk, IfSome, Some, None, Ok};
 ghost use Rattle.tcl_core.specs.Paths.{Path};
 ghost use Rattle.tcl_core.specs.Trees as core;
+ghost use Rattle.tcl_interpreter.specs.declared.command.Command.TheVariants as variant;
 ghost use Rattle.tcl_language.specs.Naming.{command_name, without_colons};
 ghost use Rattle.tcl_run.specs.Ends.{Gave, itself};
 ghost use Rattle.tcl_tree.specs.Own.{Own};
@@ -12,6 +13,7 @@ use std::alloc::{AllocError, Global};
 use tcl_run::failure::{bad_name, invalid_command, invalid_hidden};
 use tcl_run::interruption::Interruption;
 use tcl_text::text::Text;
+use tcl_tree::builtin::Builtin;
 use tcl_tree::command::Command;
 use tcl_tree::tree::{Place, Tree};
 use tcl_value::value::Value;
@@ -57,6 +59,19 @@ fn standing<'t>(tree: &'t Tree, place: Place, word: &Value) -> Option<&'t Comman
         return None;
     }
     Some(command)
+}
+
+/// The built-in command that a word names in the interpreter, where it stands at the place that the
+/// word keeps. This takes no memory.
+#[inline(never)]
+pub fn builtin_named(tree: &Tree, place: Place, word: &Value) -> Option<Builtin>
+    ensures { IfSome result (λ builtin. (p : Path) (n : core.Node Own) → Names tree.now place p →
+        tree_of tree.now p ≡ Some n → found n word.now ≡ Ok (variant.Builtin builtin)) }
+{
+    match standing(tree, place, word)? {
+        Command::Builtin(builtin) => Some(*builtin),
+        Command::Procedure(_) | Command::Alias(_) | Command::Child => None,
+    }
 }
 
 /// The command that a word names in the interpreter, if it names one. Where memory is wanting,

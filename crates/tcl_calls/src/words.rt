@@ -15,6 +15,7 @@ ghost use Rattle.tcl_tree.specs.TreeOf.{tree_of, Names};
 ghost use Rattle.tcl_calls.specs.Words.{opens, EndsBy, Adds, words_of, IsShort, Closes, ClosesBy};
 ghost use Rattle.tcl_run.specs.declared.interruption.Interruption.TheVariants.{Memory};
 
+use smallvec::SmallVec;
 use std::alloc::{AllocError, Global};
 use std::mem;
 use tcl_flow::completion;
@@ -28,6 +29,9 @@ use tcl_tree::tree::{Place, Tree};
 use tcl_value::list::List;
 use tcl_value::value::Value;
 use tcl_variables::variable_name::VariableName;
+
+/// The words of a command that is put together. Up to four take no allocation.
+pub type Words = SmallVec<Value, 4>;
 
 /// An element whose key is being substituted: its name, and the word's text before it.
 #[derive(Drop)]
@@ -53,7 +57,7 @@ pub fn spread(
     alloc: Global,
     expand: bool,
     text: Value,
-    words: &mut Vec<Value>,
+    words: &mut Words,
 ) -> Result<(), Interruption>
     ensures { MatchResult result
         (λ _. Adds (words_of expand text) words.old.items words.new.items)
@@ -65,7 +69,17 @@ pub fn spread(
         return Ok(());
     }
     let list = read_list(alloc, &mut text)?;
-    add_elements(&list, words)?;
+    add_each(&list, words)?;
+    Ok(())
+}
+
+/// Adds each element of a list to a command's words.
+fn add_each(list: &List, words: &mut Words) -> Result<(), AllocError>
+    ensures { OnOk result (words.new.items ≡ words.old.items ++ list.now) }
+{
+    'elements: for index in 0..list.len() {
+        words.push(list.get(index)?)?;
+    }
     Ok(())
 }
 

@@ -1,5 +1,5 @@
 -- What contracts see of words that are put together.
-use Rattle.std.specs.Prelude.{◌≡◌, Some, ℕ, Bool, false, List, [], ◌∷◌, Result, Ok, Err}
+use Rattle.std.specs.Prelude.{◌≡◌, Some, ℕ, Bool, List, ◌∷◌, Result, Ok, Err}
 use Rattle.tcl_core.specs.Paths.{Path}
 use Rattle.tcl_core.specs.Trees.{Tree}
 use Rattle.tcl_core.specs.Endings.{Completion}
@@ -8,7 +8,6 @@ use Rattle.tcl_core.specs.Endings.Reply.{Completed}
 use Rattle.tcl_core.specs.Programs.Prog.{done, inside}
 use Rattle.tcl_core.specs.Programs.Wrap.{Deeper}
 use Rattle.tcl_language.specs.Instructions.Instr.{Call, Hidden}
-use Rattle.tcl_parser.specs.Words.{WordRead}
 use Rattle.tcl_core.specs.Endings.{leave_proc}
 use Rattle.tcl_flow.specs.View.{completion_of}
 use Rattle.tcl_run.specs.Ends.{IfEnded, IfRan}
@@ -27,11 +26,6 @@ use Rattle.tcl_tree.specs.Own.{Own}
 use Rattle.tcl_tree.specs.TreeOf.{tree_of}
 use Rattle.tcl_tree.specs.declared.tree.Tree.{Tree as Table}
 use Rattle.tcl_tree.specs.declared.tree.Place.{Place}
-
--- no word of these is spread
-abbrev pub AreSingle : List WordRead → Type 0
-AreSingle [] = Unit {0}
-AreSingle (w ∷ ws) = (w.expand ≡ false) × AreSingle ws
 
 -- a command that is called for a caller elsewhere, one level deeper
 abbrev pub targeted : List (List ℕ) → Program

@@ -4,21 +4,49 @@ ghost use Rattle.tcl_language.specs.Scripts as scripts;
 ghost use Rattle.tcl_prepared.specs.Views.{seen_word};
 ghost use Rattle.tcl_run.specs.Ends.{IfRan, OnCompletion};
 ghost use Rattle.tcl_run.specs.Runs.{IsHere, IsRunning, Keeps, ProceedsIn, ways};
-ghost use Rattle.tcl_words_at_hand.specs.Sums.{CallsAtHand, CallsNamed};
+ghost use Rattle.tcl_words_at_hand.specs.Sums.{CallsAtHand, CallsBuiltin, CallsBuiltinAtHand};
+ghost use Rattle.tcl_words_at_hand.specs.Sums.{CallsNamed};
 
-use crate::commands::call_command;
+use crate::commands::{call_builtin, call_command};
 use std::alloc::Global;
-use tcl_calls::lookup::command_named;
+use tcl_calls::lookup::{builtin_named, command_named};
 use tcl_prepared::prepared::PreparedWord;
 use tcl_run::interruption::Interruption;
 use tcl_run::outside::Outside;
 use tcl_run::steps::charge;
+use tcl_tree::builtin::Builtin;
 use tcl_tree::command::Command;
 use tcl_tree::tree::{Place, Tree};
 use tcl_value::value::Value;
 use tcl_words_at_hand::calls::call_plain_command;
-use tcl_words_at_hand::hands::{plain_builtin, words_at_hand};
+use tcl_words_at_hand::hands::{is_plain, words_at_hand};
 use tcl_words_at_hand::sums::count_sum;
+
+/// Makes a step and calls a built-in command.
+///
+/// # Errors
+/// The stop 308; those of the command; want of memory.
+#[cycle(eval)]
+pub(crate) fn call_known<O: Outside>(
+    tree: &mut Tree,
+    alloc: Global,
+    outside: &mut O,
+    place: Place,
+    builtin: Builtin,
+    args: &[Value],
+) -> Result<Value, Interruption>
+    requires { IsRunning tree.old place }
+    ensures runs { IfRan result (CallsBuiltin (ways O.goes O.loses) tree.old outside.old place
+        builtin args.now tree.new outside.new) }
+    ensures here { OnCompletion result (IsHere tree.old tree.new place) }
+    ensures keeps { Keeps O.entries_left tree.old tree.new outside.old outside.new }
+{
+    if is_plain(builtin) {
+        return call_plain_command(tree, alloc, outside, place, builtin, args);
+    }
+    charge(tree, outside, place)?;
+    call_builtin(tree, alloc, outside, place, builtin, args)
+}
 
 /// Makes a step and calls a command that a word names.
 ///
@@ -40,14 +68,39 @@ pub(crate) fn call_named<O: Outside>(
     ensures here { OnCompletion result (IsHere tree.old tree.new place) }
     ensures keeps { Keeps O.entries_left tree.old tree.new outside.old outside.new }
 {
-    if let Some(builtin) = plain_builtin(command) {
-        return call_plain_command(tree, alloc, outside, place, builtin, args);
+    if let Command::Builtin(builtin) = command {
+        return call_known(tree, alloc, outside, place, *builtin, args);
     }
     charge(tree, outside, place)?;
     call_command(tree, alloc, outside, place, command, word, args)
 }
 
-/// The same, where the words are at hand, one of which may be a sum that isn't counted yet.
+/// Calls a built-in command whose words are at hand, one of which may be a sum that isn't counted
+/// yet.
+#[cycle(eval)]
+fn call_known_on_hand<O: Outside>(
+    tree: &mut Tree,
+    alloc: Global,
+    outside: &mut O,
+    place: Place,
+    builtin: Builtin,
+    sums: bool,
+    args: &[Value],
+) -> Result<Value, Interruption>
+    requires { IsRunning tree.old place }
+    ensures runs { IfRan result (CallsBuiltinAtHand (ways O.goes O.loses) tree.old outside.old place
+        builtin sums args.now tree.new outside.new) }
+    ensures here { OnCompletion result (IsHere tree.old tree.new place) }
+    ensures keeps { Keeps O.entries_left tree.old tree.new outside.old outside.new }
+{
+    if sums {
+        count_sum(tree, alloc, outside, place)?;
+        return call_known(tree, alloc, outside, place, builtin, args);
+    }
+    call_known(tree, alloc, outside, place, builtin, args)
+}
+
+/// The same of any command.
 #[cycle(eval)]
 fn call_on_hand<O: Outside>(
     tree: &mut Tree,
@@ -101,8 +154,11 @@ pub(crate) fn call_at_hand<O: Outside>(
         return None;
     };
     name.keeps_limit();
-    let command = command_named(tree, alloc, place, name)?;
     let hand = words_at_hand(tree, alloc, place, rest)?;
     let args = hand.values.as_slice();
+    if let Some(builtin) = builtin_named(tree, place, name) {
+        return Some(call_known_on_hand(tree, alloc, outside, place, builtin, hand.sums, args));
+    }
+    let command = command_named(tree, alloc, place, name)?;
     Some(call_on_hand(tree, alloc, outside, place, &command, name, hand.sums, args))
 }

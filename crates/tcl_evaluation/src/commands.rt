@@ -116,7 +116,7 @@ pub(crate) fn call_command<O: Outside>(
 /// Calls a command of the language or of the host.
 #[cycle(eval)]
 #[inline(never)]
-fn call_builtin<O: Outside>(
+pub(crate) fn call_builtin<O: Outside>(
     tree: &mut Tree,
     alloc: Global,
     outside: &mut O,

@@ -182,7 +182,7 @@ fn eval_commands<O: Outside>(
     let all = script.commands();
     'commands: for command in all {
         // (what the last one shares with a variable is then changed in place)
-        last = Value::empty();
+        drop(last);
         last = on_ok(eval_command(tree, alloc, outside, place, command))?;
     }
     finish(alloc, script.fault(), last)

@@ -1,18 +1,17 @@
 //! The words of commands, and the calls that are made with them.
-ghost use Rattle.std.specs.Prelude.{◌≡◌, [], map, IsTrue};
+ghost use Rattle.std.specs.Prelude.{◌≡◌, [], map};
 ghost use Rattle.tcl_language.specs.Scripts as scripts;
 ghost use Rattle.tcl_prepared.specs.Views.{literal_word, seen_word};
 ghost use Rattle.tcl_run.specs.Ends.{OnCompletion};
 ghost use Rattle.tcl_run.specs.Runs.{IsHere, IsRunning, Keeps, ProceedsIn, ways};
 ghost use Rattle.tcl_value.specs.Texts.{AllWithin};
-ghost use Rattle.tcl_evaluation.specs.View.{AreSingle};
 
-use crate::at_hand::{call_at_hand, call_named};
+use crate::at_hand::{call_at_hand, call_known, call_named};
 use crate::commands::call;
 use crate::evaluation::eval_word;
 use std::alloc::Global;
-use tcl_calls::lookup::command_named;
-use tcl_calls::words::spread;
+use tcl_calls::lookup::{builtin_named, command_named};
+use tcl_calls::words::{Words, spread};
 use tcl_prepared::prepared::PreparedWord;
 use tcl_run::interruption::Interruption;
 use tcl_run::outside::Outside;
@@ -65,6 +64,9 @@ pub fn call_literals<O: Outside>(
     ensures keeps { Keeps O.entries_left tree.old tree.new outside.old outside.new }
 {
     if let [word, args @ ..] = words {
+        if let Some(builtin) = builtin_named(tree, place, word) {
+            return call_known(tree, alloc, outside, place, builtin, args);
+        }
         if let Some(command) = command_named(tree, alloc, place, word) {
             return call_named(tree, alloc, outside, place, &command, word, args);
         }
@@ -98,13 +100,14 @@ pub fn call_words<O: Outside>(
     call_general(tree, alloc, outside, place, words)
 }
 
-/// Substitutes a command's words from left to right, makes a step and calls it. Of two to four
-/// words no list is made.
+/// Substitutes a command's words from left to right, makes a step and calls it. Up to four words
+/// take no allocation.
 ///
 /// # Errors
 /// Those of the words; 101 to 104 of a word that is spread; the stop 308; those of the call; want
 /// of memory.
 #[cycle(eval)]
+#[inline(never)]
 fn call_general<O: Outside>(
     tree: &mut Tree,
     alloc: Global,
@@ -118,15 +121,12 @@ fn call_general<O: Outside>(
     ensures here { OnCompletion result (IsHere tree.old tree.new place) }
     ensures keeps { Keeps O.entries_left tree.old tree.new outside.old outside.new }
 {
-    if !are_single(words) {
-        return call_many(tree, alloc, outside, place, words);
+    let mut texts = Words::with_capacity(alloc, words.len())?;
+    'words: for word in words {
+        let text = on_ok(eval_word(tree, alloc, outside, place, word))?;
+        spread(alloc, expands(word), text, &mut texts)?;
     }
-    match words.len() {
-        2 => call_two(tree, alloc, outside, place, words),
-        3 => call_three(tree, alloc, outside, place, words),
-        4 => call_four(tree, alloc, outside, place, words),
-        _ => call_many(tree, alloc, outside, place, words),
-    }
+    call_texts(tree, alloc, outside, place, texts.as_slice())
 }
 
 /// Whether a word is spread.
@@ -137,121 +137,4 @@ fn expands(word: &PreparedWord) -> bool
         PreparedWord::Spread(_) => true,
         PreparedWord::Literal(_) | PreparedWord::Lone(_) | PreparedWord::Parts(_) => false,
     }
-}
-
-/// Whether none of these words is spread.
-fn are_single(words: &[PreparedWord]) -> bool
-    ensures { IsTrue result → AreSingle (map seen_word words.now) }
-{
-    'words: for word in words {
-        if expands(word) {
-            return false;
-        }
-    }
-    true
-}
-
-/// Calls the command of any number of words, which may be spread.
-#[cycle(eval)]
-#[inline(never)]
-fn call_many<O: Outside>(
-    tree: &mut Tree,
-    alloc: Global,
-    outside: &mut O,
-    place: Place,
-    words: &[PreparedWord],
-) -> Result<Value, Interruption>
-    requires running { IsRunning tree.old place }
-    ensures runs { ProceedsIn (ways O.goes O.loses) tree.old outside.old place
-        (λ style. scripts.words (map seen_word words.now) []) tree.new outside.new result }
-    ensures here { OnCompletion result (IsHere tree.old tree.new place) }
-    ensures keeps { Keeps O.entries_left tree.old tree.new outside.old outside.new }
-{
-    let mut texts = Vec::with_capacity(alloc, words.len())?;
-    'words: for word in words {
-        let text = on_ok(eval_word(tree, alloc, outside, place, word))?;
-        spread(alloc, expands(word), text, &mut texts)?;
-    }
-    call_texts(tree, alloc, outside, place, texts.as_slice())
-}
-
-/// Calls the command of two words, neither of which is spread.
-#[cycle(eval)]
-#[inline(never)]
-fn call_two<O: Outside>(
-    tree: &mut Tree,
-    alloc: Global,
-    outside: &mut O,
-    place: Place,
-    words: &[PreparedWord],
-) -> Result<Value, Interruption>
-    requires running { IsRunning tree.old place }
-    requires single { AreSingle (map seen_word words.now) }
-    ensures runs { ProceedsIn (ways O.goes O.loses) tree.old outside.old place
-        (λ style. scripts.words (map seen_word words.now) []) tree.new outside.new result }
-    ensures here { OnCompletion result (IsHere tree.old tree.new place) }
-    ensures keeps { Keeps O.entries_left tree.old tree.new outside.old outside.new }
-{
-    let [first, second] = words else {
-        return call_many(tree, alloc, outside, place, words);
-    };
-    let first_text = on_ok(eval_word(tree, alloc, outside, place, first))?;
-    let second_text = on_ok(eval_word(tree, alloc, outside, place, second))?;
-    let texts = [first_text, second_text];
-    call_texts(tree, alloc, outside, place, &texts)
-}
-
-/// The same of three words.
-#[cycle(eval)]
-#[inline(never)]
-fn call_three<O: Outside>(
-    tree: &mut Tree,
-    alloc: Global,
-    outside: &mut O,
-    place: Place,
-    words: &[PreparedWord],
-) -> Result<Value, Interruption>
-    requires running { IsRunning tree.old place }
-    requires single { AreSingle (map seen_word words.now) }
-    ensures runs { ProceedsIn (ways O.goes O.loses) tree.old outside.old place
-        (λ style. scripts.words (map seen_word words.now) []) tree.new outside.new result }
-    ensures here { OnCompletion result (IsHere tree.old tree.new place) }
-    ensures keeps { Keeps O.entries_left tree.old tree.new outside.old outside.new }
-{
-    let [first, second, third] = words else {
-        return call_many(tree, alloc, outside, place, words);
-    };
-    let first_text = on_ok(eval_word(tree, alloc, outside, place, first))?;
-    let second_text = on_ok(eval_word(tree, alloc, outside, place, second))?;
-    let third_text = on_ok(eval_word(tree, alloc, outside, place, third))?;
-    let texts = [first_text, second_text, third_text];
-    call_texts(tree, alloc, outside, place, &texts)
-}
-
-/// The same of four words.
-#[cycle(eval)]
-#[inline(never)]
-fn call_four<O: Outside>(
-    tree: &mut Tree,
-    alloc: Global,
-    outside: &mut O,
-    place: Place,
-    words: &[PreparedWord],
-) -> Result<Value, Interruption>
-    requires running { IsRunning tree.old place }
-    requires single { AreSingle (map seen_word words.now) }
-    ensures runs { ProceedsIn (ways O.goes O.loses) tree.old outside.old place
-        (λ style. scripts.words (map seen_word words.now) []) tree.new outside.new result }
-    ensures here { OnCompletion result (IsHere tree.old tree.new place) }
-    ensures keeps { Keeps O.entries_left tree.old tree.new outside.old outside.new }
-{
-    let [first, second, third, fourth] = words else {
-        return call_many(tree, alloc, outside, place, words);
-    };
-    let first_text = on_ok(eval_word(tree, alloc, outside, place, first))?;
-    let second_text = on_ok(eval_word(tree, alloc, outside, place, second))?;
-    let third_text = on_ok(eval_word(tree, alloc, outside, place, third))?;
-    let fourth_text = on_ok(eval_word(tree, alloc, outside, place, fourth))?;
-    let texts = [first_text, second_text, third_text, fourth_text];
-    call_texts(tree, alloc, outside, place, &texts)
 }

@@ -45,3 +45,9 @@ CallsAtHand ways old o place named word sums args new z e = (p : Path) (style : 
     (n : Node Own) → IsAt old place p style → tree_of old p ≡ Some n → IsNamed n word named →
     (ws : List WordRead) → AllEnd style n ws sums (word ∷ args) →
     Proceeds ways (language style) (tree_of old) o p (words ws []) (tree_of new) z e
+
+-- and so does a built-in one whose words end so, by whatever word it is called
+abbrev pub CallsBuiltinAtHand : {S : Type 0} → Ways S → Table → S → Place → Builtin → Bool →
+    List Text → Table → S → Ending → Type 0
+CallsBuiltinAtHand ways old o place builtin sums args new z e = (word : Text) →
+    CallsAtHand ways old o place (command.Builtin builtin) word sums args new z e

@@ -1,7 +1,6 @@
 //! What is at hand: words, commands, and sums in brackets.
 ghost use Rattle.std.specs.Prelude.{◌≡◌, ◌∷◌, [], true, false, map, IfSome};
 ghost use Rattle.tcl_builtins.specs.Kinds.{is_plain};
-ghost use Rattle.tcl_interpreter.specs.declared.command.Command.TheVariants as variant;
 ghost use Rattle.tcl_language.specs.Instructions.{fits};
 ghost use Rattle.tcl_parser.specs.declared.script.Part.TheVariants.{Script};
 ghost use Rattle.std.specs.String.{string_bytes};
@@ -11,7 +10,7 @@ ghost use Rattle.tcl_words_at_hand.specs.Hands.{StandsFor, one_of, texts_of};
 
 use std::alloc::Global;
 use tcl_calls::expressions::{number_at, read_expression};
-use tcl_calls::lookup::command_named;
+use tcl_calls::lookup::builtin_named;
 use tcl_calls::scripts::{hand_place, script_of};
 use tcl_frames::frames::Frames;
 use tcl_prepared::prepared::{Bracket, Prepared, PreparedCommand, PreparedPart, PreparedWord};
@@ -19,12 +18,11 @@ use tcl_run::steps::{frames_seen, known_short};
 use tcl_text::limit::MOST_BYTES;
 use tcl_text::text::Text;
 use tcl_tree::builtin::Builtin;
-use tcl_tree::command::Command;
 use tcl_tree::tree::{Place, Tree};
 use tcl_value::value::Value;
 
 /// Whether a built-in command evaluates nothing, and asks neither another interpreter nor the host.
-fn is_plain(builtin: Builtin) -> bool
+pub fn is_plain(builtin: Builtin) -> bool
     ensures { result ≡ is_plain builtin }
 {
     match builtin {
@@ -35,17 +33,6 @@ fn is_plain(builtin: Builtin) -> bool
         Builtin::Open | Builtin::Close | Builtin::Gets | Builtin::Puts => false,
         Builtin::Read | Builtin::Eof | Builtin::Flush | Builtin::Source => false,
         _ => true,
-    }
-}
-
-/// The built-in command that a command is, where it is a plain one.
-pub fn plain_builtin(command: &Command) -> Option<Builtin>
-    ensures is { IfSome result (λ builtin. command.now ≡ variant.Builtin builtin) }
-    ensures plain { IfSome result (λ builtin. is_plain builtin ≡ true) }
-{
-    match command {
-        Command::Builtin(builtin) if is_plain(*builtin) => Some(*builtin),
-        _ => None,
     }
 }
 
@@ -130,11 +117,7 @@ pub fn sum_at_hand(tree: &Tree, alloc: Global, place: Place, script: &Prepared) 
     if args.len() != 1 {
         return None;
     }
-    let command = command_named(tree, alloc, place, word)?;
-    let Command::Builtin(builtin) = command else {
-        return None;
-    };
-    let Builtin::Expr = builtin else {
+    let Builtin::Expr = builtin_named(tree, place, word)? else {
         return None;
     };
     let Ok(text) = script_of(alloc, args) else {

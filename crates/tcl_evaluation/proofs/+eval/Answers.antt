@@ -48,7 +48,7 @@ use Rattle.tcl_evaluation.specs.View.{targeted, unhidden}
 use Rattle.std.proofs.Common.{false}
 use Rattle.std.specs.Prelude.{Err}
 use Rattle.tcl_text.specs.declared.integer.Integers.{Integers}
-use Rattle.tcl_text.proofs.Items.{item_on, none_on, no_item, split_first, one_item, two_items, three_items, four_items}
+use Rattle.tcl_text.proofs.Items.{item_on, none_on, no_item, split_first, one_item, two_items, three_items}
 use Rattle.std.proofs.lemmas.Bool.Decides.{nat_tests}
 use Rattle.std.proofs.Common.{Option}
 use Rattle.tcl_parser.specs.declared.fault.Fault.{Fault}
@@ -56,7 +56,7 @@ use Rattle.tcl_prepared.specs.Views.{literal_parts, literal_word, seen_command, 
 use Rattle.tcl_prepared.specs.declared.prepared.PreparedPart.{PreparedPart}
 use Rattle.tcl_prepared.specs.declared.prepared.PreparedWord.{PreparedWord}
 use Rattle.tcl_prepared.specs.declared.prepared.PreparedCommand.{PreparedCommand}
-use Rattle.tcl_evaluation.specs.View.{AreSingle, GoesOn}
+use Rattle.tcl_evaluation.specs.View.{GoesOn}
 use Rattle.tcl_value.specs.Texts.{AllWithin}
 use Rattle.tcl_entries.proofs.Reached.{never_outside}
 use Rattle.tcl_core.specs.Programs.Prog.{done}
@@ -155,7 +155,8 @@ use Rattle.tcl_run.proofs.Proceeding.{does_proceeds, stopped, stopped_by}
 use Rattle.tcl_language.specs.Definitions as definitions
 use Rattle.tcl_interpreter.specs.declared.builtin.Builtin.{Builtin}
 use Rattle.tcl_words_at_hand.proofs.Plainly.{acts_proceeds, sum_in, unchanged_runs}
-use Rattle.tcl_words_at_hand.specs.Sums.{CallsAtHand, CallsBuiltin, CallsNamed}
+use Rattle.tcl_words_at_hand.specs.Sums.{CallsAtHand, CallsBuiltin, CallsBuiltinAtHand, CallsNamed}
+use Rattle.tcl_interpreter.specs.declared.command.Command.TheVariants as command
 use Rattle.std.proofs.Common.{Bool}
 use Rattle.tcl_parser.specs.Reading.{read_script}
 use Rattle.tcl_words_at_hand.specs.Hands.{AllEnd, IsNamed, texts_of}
@@ -248,22 +249,69 @@ words::call_literals-returns-clause-runs g t c =
 pub words::call_literals-returns-in-Some-clause-runs : goal.words::call_literals-returns-in-Some-clause-runs
 words::call_literals-returns-in-Some-clause-runs g t c =
     let more = take (length c.args.words.now - 1) (drop 1 c.args.words.now) in
+    IfRan-more c.call_known.result
+    (CallsBuiltin (ways g.O.Outside.goes g.O.Outside.loses) c.args.tree.now c.args.outside.now c.args.place c.in-Some.builtin more c.call_known.new.tree c.call_known.new.outside)
+    (EndsFrom (ways g.O.Outside.goes g.O.Outside.loses) c.args.tree.now c.args.outside.now c.args.place (λ style. words (map literal_word c.args.words.now) []) c.call_known.new.tree c.call_known.new.outside)
+    (λ e h q style at. let n = stands (tree_of c.args.tree.now q) (tree_there c.args.tree.now q _ at.names) in
+    Steps.lends style c.args.words.now [] c.requires.within
+    (at_prog (ap (words []) (split_first c.args.words.now c.word-item.result c.in-len1-up.len_at_least c.word-item.is))
+    (h c.word-item.result q style n.0 at n.1 (c.in-Some.ensures q n.0 at.names n.1)))) c.call_known.ensures.runs
+
+pub words::call_literals-returns-in-Some-command_named-clause-runs : goal.words::call_literals-returns-in-Some-command_named-clause-runs
+words::call_literals-returns-in-Some-command_named-clause-runs g t c =
+    let more = take (length c.args.words.now - 1) (drop 1 c.args.words.now) in
     IfRan-more c.call_named.result
-    (CallsNamed (ways g.O.Outside.goes g.O.Outside.loses) c.args.tree.now c.args.outside.now c.args.place c.in-Some.command c.word-item.result more c.call_named.new.tree c.call_named.new.outside)
+    (CallsNamed (ways g.O.Outside.goes g.O.Outside.loses) c.args.tree.now c.args.outside.now c.args.place c.in-Some-command_named.command c.word-item.result more c.call_named.new.tree c.call_named.new.outside)
     (EndsFrom (ways g.O.Outside.goes g.O.Outside.loses) c.args.tree.now c.args.outside.now c.args.place (λ style. words (map literal_word c.args.words.now) []) c.call_named.new.tree c.call_named.new.outside)
     (λ e h q style at. let n = stands (tree_of c.args.tree.now q) (tree_there c.args.tree.now q _ at.names) in
     Steps.lends style c.args.words.now [] c.requires.within
     (at_prog (ap (words []) (split_first c.args.words.now c.word-item.result c.in-len1-up.len_at_least c.word-item.is))
-    (h q style n.0 at n.1 (c.in-Some.ensures q n.0 at.names n.1)))) c.call_named.ensures.runs
+    (h q style n.0 at n.1 (c.in-Some-command_named.ensures q n.0 at.names n.1)))) c.call_named.ensures.runs
 
 -- calls whose words are at hand
 
-pub at_hand::call_named-returns-in-Some-clause-runs : goal.at_hand::call_named-returns-in-Some-clause-runs
-at_hand::call_named-returns-in-Some-clause-runs g t c =
-    IfRan-more c.call_plain_command.result
-    (CallsBuiltin (ways g.O.Outside.goes g.O.Outside.loses) c.args.tree.now c.args.outside.now c.args.place c.in-Some.builtin c.args.args.now c.call_plain_command.new.tree c.call_plain_command.new.outside)
-    (CallsNamed (ways g.O.Outside.goes g.O.Outside.loses) c.args.tree.now c.args.outside.now c.args.place c.args.command.now c.args.word.now c.args.args.now c.call_plain_command.new.tree c.call_plain_command.new.outside)
-    (λ e h q style n at there named. h c.args.word.now q style n at there (subst (λ (x : Command). IsNamed n c.args.word.now x) c.in-Some.ensures.is named)) c.call_plain_command.ensures.runs
+pub at_hand::call_known-returns-in_err-charge-clause-runs : goal.at_hand::call_known-returns-in_err-charge-clause-runs
+at_hand::call_known-returns-in_err-charge-clause-runs g t c =
+    let p = err_from_is_err_and c.from_residual.result c.from_residual.ensures.1 in
+    says_err c.from_residual.result c.in_err-charge.field-0.0 p.0 _ _ _ p.1 p.2 c.in_err-charge.ensures.refused
+    (λ e h word q style n at there named. Steps.charged_stops style (word ∷ c.args.args.now) (omega arith) (h q at.names))
+
+pub at_hand::call_known-returns-in_err-charge-clause-here : goal.at_hand::call_known-returns-in_err-charge-clause-here
+at_hand::call_known-returns-in_err-charge-clause-here g t c = on_completion c.from_residual.result (IsHere c.args.tree.now c.charge.new.tree c.args.place) (level_here c.args.tree.now c.charge.new.tree c.args.place c.charge.ensures.level)
+
+pub at_hand::call_known-returns-in_err-charge-clause-keeps : goal.at_hand::call_known-returns-in_err-charge-clause-keeps
+at_hand::call_known-returns-in_err-charge-clause-keeps g t c = charged_keeps c.charge.ensures.level c.charge.ensures.left
+
+pub at_hand::call_known-call_builtin-requires : goal.at_hand::call_known-call_builtin-requires
+at_hand::call_known-call_builtin-requires g t c κs within = (search rules, (search rules, still_running c.args.tree.now c.charge.new.tree c.args.place (level_here c.args.tree.now c.charge.new.tree c.args.place c.charge.ensures.level) c.requires))
+
+pub at_hand::call_known-returns-clause-runs : goal.at_hand::call_known-returns-clause-runs
+at_hand::call_known-returns-clause-runs g t c =
+    let named_so = command.Builtin c.args.builtin in
+    let args = c.args.args.now in
+    IfRan-more c.call_builtin.result
+    (EndsFrom (ways g.O.Outside.goes g.O.Outside.loses) c.charge.new.tree c.charge.new.outside c.args.place (λ style. builtin_program style c.args.builtin args) c.call_builtin.new.tree c.call_builtin.new.outside)
+    (CallsBuiltin (ways g.O.Outside.goes g.O.Outside.loses) c.args.tree.now c.args.outside.now c.args.place c.args.builtin args c.call_builtin.new.tree c.call_builtin.new.outside)
+    (λ e h word q style n at there named.
+    let counts = c.in_ok-charge.ensures.counted q at.names in
+    let m = charged_own (tree_of c.args.tree.now) (tree_of c.charge.new.tree) q q n counts.counted there in
+    Steps.charged_calls style (word ∷ args) (omega arith) counts
+    (call_found style word args named_so m.1 (named_own n m.0 word named_so m.2 named)
+    (h q style (still_at c.args.tree.now c.charge.new.tree c.args.place q style (level_here c.args.tree.now c.charge.new.tree c.args.place c.charge.ensures.level) at))))
+    c.call_builtin.ensures.runs
+
+pub at_hand::call_known-returns-clause-here : goal.at_hand::call_known-returns-clause-here
+at_hand::call_known-returns-clause-here g t c = here_then c.call_builtin.result c.args.tree.now c.charge.new.tree c.call_builtin.new.tree c.args.place (level_here c.args.tree.now c.charge.new.tree c.args.place c.charge.ensures.level) c.call_builtin.ensures.here
+
+pub at_hand::call_known-returns-clause-keeps : goal.at_hand::call_known-returns-clause-keeps
+at_hand::call_known-returns-clause-keeps g t c = keeps-trans (charged_keeps c.charge.ensures.level c.charge.ensures.left) c.call_builtin.ensures.keeps
+
+pub at_hand::call_named-returns-in-Builtin-clause-runs : goal.at_hand::call_named-returns-in-Builtin-clause-runs
+at_hand::call_named-returns-in-Builtin-clause-runs g t c =
+    IfRan-more c.call_known.result
+    (CallsBuiltin (ways g.O.Outside.goes g.O.Outside.loses) c.args.tree.now c.args.outside.now c.args.place c.in-Builtin.builtin c.args.args.now c.call_known.new.tree c.call_known.new.outside)
+    (CallsNamed (ways g.O.Outside.goes g.O.Outside.loses) c.args.tree.now c.args.outside.now c.args.place c.args.command.now c.args.word.now c.args.args.now c.call_known.new.tree c.call_known.new.outside)
+    (λ e h q style n at there named. h c.args.word.now q style n at there (subst (λ (x : Command). IsNamed n c.args.word.now x) c.in-Builtin.is named)) c.call_known.ensures.runs
 
 pub at_hand::call_named-returns-in_err-charge-clause-runs : goal.at_hand::call_named-returns-in_err-charge-clause-runs
 at_hand::call_named-returns-in_err-charge-clause-runs g t c =
@@ -300,6 +348,48 @@ at_hand::call_named-returns-clause-here g t c = here_then c.call_command.result 
 
 pub at_hand::call_named-returns-clause-keeps : goal.at_hand::call_named-returns-clause-keeps
 at_hand::call_named-returns-clause-keeps g t c = keeps-trans (charged_keeps c.charge.ensures.level c.charge.ensures.left) c.call_command.ensures.keeps
+
+pub at_hand::call_known_on_hand-returns-in_err-count_sum-clause-runs : goal.at_hand::call_known_on_hand-returns-in_err-count_sum-clause-runs
+at_hand::call_known_on_hand-returns-in_err-count_sum-clause-runs g t c =
+    let p = err_from_is_err_and c.from_residual.result c.from_residual.ensures.1 in
+    ran_err c.from_residual.result c.in_err-count_sum.field-0.0 p.0 _ _ _ p.1 p.2 c.in_err-count_sum.ensures.breaks
+    (λ e h word q style n at there named ws call.
+    let k = subst (λ (b : Bool). AllEnd style n ws b (word ∷ c.args.args.now)) c.if-sums.true call in
+    Calls.sum_ends style ws [] (word ∷ c.args.args.now) e there k h.0 (λ inner text is. h.1 q style n (there_at c.args.tree.now c.args.place q style at) there (read_script inner) text is))
+
+pub at_hand::call_known_on_hand-returns-in_err-count_sum-clause-here : goal.at_hand::call_known_on_hand-returns-in_err-count_sum-clause-here
+at_hand::call_known_on_hand-returns-in_err-count_sum-clause-here g t c = on_completion c.from_residual.result (IsHere c.args.tree.now c.count_sum.new.tree c.args.place) c.count_sum.ensures.here
+
+pub at_hand::call_known_on_hand-call_known-requires : goal.at_hand::call_known_on_hand-call_known-requires
+at_hand::call_known_on_hand-call_known-requires g t c κs within = (search rules, (search rules, still_running c.args.tree.now c.count_sum.new.tree c.args.place c.count_sum.ensures.here c.requires))
+
+pub at_hand::call_known_on_hand-returns-then-sums-clause-runs : goal.at_hand::call_known_on_hand-returns-then-sums-clause-runs
+at_hand::call_known_on_hand-returns-then-sums-clause-runs g t c =
+    IfRan-more c.call_known.result
+    (CallsBuiltin (ways g.O.Outside.goes g.O.Outside.loses) c.count_sum.new.tree c.count_sum.new.outside c.args.place c.args.builtin c.args.args.now c.call_known.new.tree c.call_known.new.outside)
+    (CallsBuiltinAtHand (ways g.O.Outside.goes g.O.Outside.loses) c.args.tree.now c.args.outside.now c.args.place c.args.builtin c.args.sums c.args.args.now c.call_known.new.tree c.call_known.new.outside)
+    (λ e h word q style n at there named ws call.
+    let k = subst (λ (b : Bool). AllEnd style n ws b (word ∷ c.args.args.now)) c.if-sums.true call in
+    let m = c.in_ok-count_sum.ensures.own q n at.names there in
+    Calls.sum_goes style ws [] (word ∷ c.args.args.now) there k (λ inner text is. c.in_ok-count_sum.ensures.sums q style n (there_at c.args.tree.now c.args.place q style at) there (read_script inner) text is) m.1 m.2
+    (h word q style m.0 (still_at c.args.tree.now c.count_sum.new.tree c.args.place q style c.count_sum.ensures.here at) m.1 (named_own n m.0 word (command.Builtin c.args.builtin) m.2 named)))
+    c.call_known.ensures.runs
+
+pub at_hand::call_known_on_hand-returns-then-sums-clause-here : goal.at_hand::call_known_on_hand-returns-then-sums-clause-here
+at_hand::call_known_on_hand-returns-then-sums-clause-here g t c = here_then c.call_known.result c.args.tree.now c.count_sum.new.tree c.call_known.new.tree c.args.place c.count_sum.ensures.here c.call_known.ensures.here
+
+pub at_hand::call_known_on_hand-returns-then-sums-clause-keeps : goal.at_hand::call_known_on_hand-returns-then-sums-clause-keeps
+at_hand::call_known_on_hand-returns-then-sums-clause-keeps g t c = keeps-trans c.count_sum.ensures.keeps c.call_known.ensures.keeps
+
+pub at_hand::call_known_on_hand-returns-clause-runs : goal.at_hand::call_known_on_hand-returns-clause-runs
+at_hand::call_known_on_hand-returns-clause-runs g t c =
+    IfRan-more c.call_known-2.result
+    (CallsBuiltin (ways g.O.Outside.goes g.O.Outside.loses) c.args.tree.now c.args.outside.now c.args.place c.args.builtin c.args.args.now c.call_known-2.new.tree c.call_known-2.new.outside)
+    (CallsBuiltinAtHand (ways g.O.Outside.goes g.O.Outside.loses) c.args.tree.now c.args.outside.now c.args.place c.args.builtin c.args.sums c.args.args.now c.call_known-2.new.tree c.call_known-2.new.outside)
+    (λ e h word q style n at there named ws call.
+    let k = subst (λ (b : Bool). AllEnd style n ws b (word ∷ c.args.args.now)) c.if-sums.false call in
+    Calls.plain_goes style ws (word ∷ c.args.args.now) there k (h word q style n at there named))
+    c.call_known-2.ensures.runs
 
 pub at_hand::call_on_hand-returns-in_err-count_sum-clause-runs : goal.at_hand::call_on_hand-returns-in_err-count_sum-clause-runs
 at_hand::call_on_hand-returns-in_err-count_sum-clause-runs g t c =
@@ -343,6 +433,22 @@ at_hand::call_on_hand-returns-clause-runs g t c =
     Calls.plain_goes style ws (c.args.word.now ∷ c.args.args.now) there k (h q style n at there named))
     c.call_named-2.ensures.runs
 
+pub at_hand::call_at_hand-returns-in-Some-clause-runs : goal.at_hand::call_at_hand-returns-in-Some-clause-runs
+at_hand::call_at_hand-returns-in-Some-clause-runs g t c =
+    let rest = take (length c.args.words.now - 1) (drop 1 c.args.words.now) in
+    let values = texts_of c.in_ok-hand.hand.values in
+    IfRan-more c.call_known_on_hand.result
+    (CallsBuiltinAtHand (ways g.O.Outside.goes g.O.Outside.loses) c.args.tree.now c.args.outside.now c.args.place c.in-Some.builtin c.in_ok-hand.hand.sums c.as_slice-args.result.now c.call_known_on_hand.new.tree c.call_known_on_hand.new.outside)
+    (EndsFrom (ways g.O.Outside.goes g.O.Outside.loses) c.args.tree.now c.args.outside.now c.args.place (λ style. words (map seen_word c.args.words.now) []) c.call_known_on_hand.new.tree c.call_known_on_hand.new.outside)
+    (λ e h q style at.
+    let n = stands (tree_of c.args.tree.now q) (tree_there c.args.tree.now q _ at.names) in
+    let literal = Calls.literal_stands n.0.own.chain.frames (seen_word c.first-item.result) c.in-Literal.name (ap seen_word c.in-Literal.is) (Steps.within_fits c.in-Literal.name c.keeps_limit.ensures) in
+    let ends : AllEnd style n.0 (map seen_word rest) c.in_ok-hand.hand.sums values = subst (λ (s : Integers). AllEnd s n.0 (map seen_word rest) c.in_ok-hand.hand.sums values) at.style_is (c.in_ok-hand.ensures q n.0 at.names n.1) in
+    at_prog (ap (λ (ws : List PreparedWord). words (map seen_word ws) []) (split_first c.args.words.now c.first-item.result c.in-len1-up.len_at_least c.first-item.is))
+    (h c.in-Literal.name q style n.0 at n.1 (c.in-Some.ensures q n.0 at.names n.1) (seen_word c.first-item.result ∷ map seen_word rest)
+    (inl (literal, subst (λ (ts : List Text). AllEnd style n.0 (map seen_word rest) c.in_ok-hand.hand.sums ts) (sym c.as_slice-args.ensures) ends))))
+    c.call_known_on_hand.ensures.runs
+
 pub at_hand::call_at_hand-returns-clause-runs : goal.at_hand::call_at_hand-returns-clause-runs
 at_hand::call_at_hand-returns-clause-runs g t c =
     let rest = take (length c.args.words.now - 1) (drop 1 c.args.words.now) in
@@ -377,19 +483,19 @@ words::call_words-returns-clause-keeps g t c = keeps-trans c.call_at_hand.ensure
 
 -- any number of words
 
-pub words::call_many-returns-in_err-texts-clause-runs : goal.words::call_many-returns-in_err-texts-clause-runs
-words::call_many-returns-in_err-texts-clause-runs g t c =
+pub words::call_general-returns-in_err-texts-clause-runs : goal.words::call_general-returns-in_err-texts-clause-runs
+words::call_general-returns-in_err-texts-clause-runs g t c =
     let p = err_from_is_err_and c.from_residual.result c.from_residual.ensures.1 in
     memory_err c.from_residual.result p.0 _ _ p.1 p.2 (λ q style at. stopped)
 
-pub words::call_many-returns-in_err-texts-clause-here : goal.words::call_many-returns-in_err-texts-clause-here
-words::call_many-returns-in_err-texts-clause-here g t c = unmoved c.from_residual.result c.args.tree.now c.args.place
+pub words::call_general-returns-in_err-texts-clause-here : goal.words::call_general-returns-in_err-texts-clause-here
+words::call_general-returns-in_err-texts-clause-here g t c = unmoved c.from_residual.result c.args.tree.now c.args.place
 
-pub words::call_many-eval_word-requires : goal.words::call_many-eval_word-requires
-words::call_many-eval_word-requires g t c κs within = (search rules, (search rules, still_running c.args.tree.now c.words.tree c.args.place c.words.invariant.here c.requires.running))
+pub words::call_general-eval_word-requires : goal.words::call_general-eval_word-requires
+words::call_general-eval_word-requires g t c κs within = (search rules, (search rules, still_running c.args.tree.now c.words.tree c.args.place c.words.invariant.here c.requires.running))
 
-pub words::call_many-returns-in_err-text-clause-runs : goal.words::call_many-returns-in_err-text-clause-runs
-words::call_many-returns-in_err-text-clause-runs g t c =
+pub words::call_general-returns-in_err-text-clause-runs : goal.words::call_general-returns-in_err-text-clause-runs
+words::call_general-returns-in_err-text-clause-runs g t c =
     let item = item_on c.args.words.now c.words.word-index c.word-item.result c.words-test.true c.word-item.is in
     let p = err_from_is_err_and c.from_residual-in_err-text.result c.from_residual-in_err-text.ensures.1 in
     ran_err c.from_residual-in_err-text.result c.in_err-text.field-0.0 p.0 _ _ _ p.1 p.2
@@ -397,16 +503,16 @@ words::call_many-returns-in_err-text-clause-runs g t c =
     (λ e h q style at. c.words.invariant.leads q style at _ _ _ (at_prog (ap (λ (ws : List PreparedWord). words (map seen_word ws) c.words.texts.items) item)
     (Steps.word_stays style (seen_word c.word-item.result) _ c.words.texts.items e h.1 (h.0 q style (still_at c.args.tree.now c.words.tree c.args.place q style c.words.invariant.here at)))))
 
-pub words::call_many-returns-in_err-text-clause-here : goal.words::call_many-returns-in_err-text-clause-here
-words::call_many-returns-in_err-text-clause-here g t c =
+pub words::call_general-returns-in_err-text-clause-here : goal.words::call_general-returns-in_err-text-clause-here
+words::call_general-returns-in_err-text-clause-here g t c =
     let p = err_from_is_err_and c.from_residual-in_err-text.result c.from_residual-in_err-text.ensures.1 in
     here_passed c.from_residual-in_err-text.result c.eval_word.result c.in_err-text.field-0.0 p.0 c.args.tree.now c.words.tree c.eval_word.new.tree c.args.place p.1 p.2 c.in_err-text.ensures.same c.words.invariant.here c.eval_word.ensures.here
 
-pub words::call_many-returns-in_err-text-clause-keeps : goal.words::call_many-returns-in_err-text-clause-keeps
-words::call_many-returns-in_err-text-clause-keeps g t c = keeps-trans c.words.invariant.keeps c.eval_word.ensures.keeps
+pub words::call_general-returns-in_err-text-clause-keeps : goal.words::call_general-returns-in_err-text-clause-keeps
+words::call_general-returns-in_err-text-clause-keeps g t c = keeps-trans c.words.invariant.keeps c.eval_word.ensures.keeps
 
-pub words::call_many-returns-in_err-spread-clause-runs : goal.words::call_many-returns-in_err-spread-clause-runs
-words::call_many-returns-in_err-spread-clause-runs g t c =
+pub words::call_general-returns-in_err-spread-clause-runs : goal.words::call_general-returns-in_err-spread-clause-runs
+words::call_general-returns-in_err-spread-clause-runs g t c =
     let item = item_on c.args.words.now c.words.word-index c.word-item.result c.words-test.true c.word-item.is in
     let p = err_from_is_err_and c.from_residual-in_err-spread.result c.from_residual-in_err-spread.ensures.1 in
     let x = ran_text c.eval_word.result c.in_ok-text.text (EndsFrom (ways g.O.Outside.goes g.O.Outside.loses) c.words.tree c.words.outside c.args.place (λ style. parts (seen_word c.word-item.result).parts [] []) c.eval_word.new.tree c.eval_word.new.outside) c.in_ok-text.ensures.text c.eval_word.ensures.runs in
@@ -416,14 +522,14 @@ words::call_many-returns-in_err-spread-clause-runs g t c =
     (λ q style at. c.words.invariant.leads q style at _ _ _ (at_prog (ap (λ (ws : List PreparedWord). words (map seen_word ws) c.words.texts.items) item)
     (Steps.word_lost style (seen_word c.word-item.result) _ c.words.texts.items (x.1 q style (still_at c.args.tree.now c.words.tree c.args.place q style c.words.invariant.here at)))))
 
-pub words::call_many-returns-in_err-spread-clause-here : goal.words::call_many-returns-in_err-spread-clause-here
-words::call_many-returns-in_err-spread-clause-here g t c = on_completion c.from_residual-in_err-spread.result (IsHere c.args.tree.now c.eval_word.new.tree c.args.place) (here-trans c.args.tree.now c.words.tree c.eval_word.new.tree c.args.place c.words.invariant.here (here_text c.eval_word.result c.in_ok-text.text c.words.tree c.eval_word.new.tree c.args.place c.in_ok-text.ensures.text c.eval_word.ensures.here))
+pub words::call_general-returns-in_err-spread-clause-here : goal.words::call_general-returns-in_err-spread-clause-here
+words::call_general-returns-in_err-spread-clause-here g t c = on_completion c.from_residual-in_err-spread.result (IsHere c.args.tree.now c.eval_word.new.tree c.args.place) (here-trans c.args.tree.now c.words.tree c.eval_word.new.tree c.args.place c.words.invariant.here (here_text c.eval_word.result c.in_ok-text.text c.words.tree c.eval_word.new.tree c.args.place c.in_ok-text.ensures.text c.eval_word.ensures.here))
 
-pub words::call_many-returns-in_err-spread-clause-keeps : goal.words::call_many-returns-in_err-spread-clause-keeps
-words::call_many-returns-in_err-spread-clause-keeps g t c = keeps-trans c.words.invariant.keeps c.eval_word.ensures.keeps
+pub words::call_general-returns-in_err-spread-clause-keeps : goal.words::call_general-returns-in_err-spread-clause-keeps
+words::call_general-returns-in_err-spread-clause-keeps g t c = keeps-trans c.words.invariant.keeps c.eval_word.ensures.keeps
 
-pub words::call_many-words-preserved : goal.words::call_many-words-preserved
-words::call_many-words-preserved g t c =
+pub words::call_general-words-preserved : goal.words::call_general-words-preserved
+words::call_general-words-preserved g t c =
     let item = item_on c.args.words.now c.words.word-index c.word-item.result c.words-test.true c.word-item.is in
     let x = ran_text c.eval_word.result c.in_ok-text.text (EndsFrom (ways g.O.Outside.goes g.O.Outside.loses) c.words.tree c.words.outside c.args.place (λ style. parts (seen_word c.word-item.result).parts [] []) c.eval_word.new.tree c.eval_word.new.outside) c.in_ok-text.ensures.text c.eval_word.ensures.runs in
     record {
@@ -433,327 +539,22 @@ words::call_many-words-preserved g t c =
       keeps = keeps-trans c.words.invariant.keeps c.eval_word.ensures.keeps;
     }
 
-pub words::call_many-call_texts-requires : goal.words::call_many-call_texts-requires
-words::call_many-call_texts-requires g t c κs within = (search rules, (search rules, still_running c.args.tree.now c.words.tree c.args.place c.words.invariant.here c.requires.running))
+pub words::call_general-call_texts-requires : goal.words::call_general-call_texts-requires
+words::call_general-call_texts-requires g t c κs within = (search rules, (search rules, still_running c.args.tree.now c.words.tree c.args.place c.words.invariant.here c.requires.running))
 
-pub words::call_many-returns-clause-runs : goal.words::call_many-returns-clause-runs
-words::call_many-returns-clause-runs g t c =
+pub words::call_general-returns-clause-runs : goal.words::call_general-returns-clause-runs
+words::call_general-returns-clause-runs g t c =
     let none = none_on c.args.words.now c.words.word-index c.words-test.false in
     IfRan-more c.call_texts.result (EndsFrom (ways g.O.Outside.goes g.O.Outside.loses) c.words.tree c.words.outside c.args.place (λ style. words [] c.as_slice.result.now) c.call_texts.new.tree c.call_texts.new.outside)
     (EndsFrom (ways g.O.Outside.goes g.O.Outside.loses) c.args.tree.now c.args.outside.now c.args.place (λ style. words (map seen_word c.args.words.now) []) c.call_texts.new.tree c.call_texts.new.outside) (λ e h q style at.
-    c.words.invariant.leads q style at _ _ _ (at_prog (ap (λ (ws : List PreparedWord). words (map seen_word ws) c.words.texts.items) none ∙ ap (words []) (sym c.as_slice.ensures.value))
+    c.words.invariant.leads q style at _ _ _ (at_prog (ap (λ (ws : List PreparedWord). words (map seen_word ws) c.words.texts.items) none ∙ ap (words []) (sym c.as_slice.ensures))
     (h q style (still_at c.args.tree.now c.words.tree c.args.place q style c.words.invariant.here at)))) c.call_texts.ensures.runs
 
-pub words::call_many-returns-clause-here : goal.words::call_many-returns-clause-here
-words::call_many-returns-clause-here g t c = here_then c.call_texts.result c.args.tree.now c.words.tree c.call_texts.new.tree c.args.place c.words.invariant.here c.call_texts.ensures.here
+pub words::call_general-returns-clause-here : goal.words::call_general-returns-clause-here
+words::call_general-returns-clause-here g t c = here_then c.call_texts.result c.args.tree.now c.words.tree c.call_texts.new.tree c.args.place c.words.invariant.here c.call_texts.ensures.here
 
-pub words::call_many-returns-clause-keeps : goal.words::call_many-returns-clause-keeps
-words::call_many-returns-clause-keeps g t c = keeps-trans c.words.invariant.keeps c.call_texts.ensures.keeps
-
--- two words
-
-pub words::call_two-returns-in_err-first_text-clause-runs : goal.words::call_two-returns-in_err-first_text-clause-runs
-words::call_two-returns-in_err-first_text-clause-runs g t c =
-    let is : map seen_word c.args.words.now ≡ seen_word c.first-item.result ∷ seen_word c.second-item.result ∷ [] = ap (map seen_word) (two_items c.args.words.now c.first-item.result c.second-item.result c.in-len2.len_at_least c.in-len2.len_below c.first-item.is c.second-item.is) in
-    let p = err_from_is_err_and c.from_residual.result c.from_residual.ensures.1 in
-    ran_err c.from_residual.result c.in_err-first_text.field-0.0 p.0 _ _ _ p.1 p.2
-    (stays_of c.eval_word.result c.in_err-first_text.field-0.0 (EndsFrom (ways g.O.Outside.goes g.O.Outside.loses) c.args.tree.now c.args.outside.now c.args.place (λ style. parts (seen_word c.first-item.result).parts [] []) c.eval_word.new.tree c.eval_word.new.outside) c.in_err-first_text.ensures.same c.eval_word.ensures.runs c.in_err-first_text.ensures.stays)
-    (λ e h q style at.
-    at_prog (ap (λ (ws : List WordRead). words ws []) is)
-    (Steps.word_stays style (seen_word c.first-item.result) _ [] e h.1 (h.0 q style at)))
-
-pub words::call_two-returns-in_err-first_text-clause-here : goal.words::call_two-returns-in_err-first_text-clause-here
-words::call_two-returns-in_err-first_text-clause-here g t c =
-    let p = err_from_is_err_and c.from_residual.result c.from_residual.ensures.1 in
-    here_passed c.from_residual.result c.eval_word.result c.in_err-first_text.field-0.0 p.0 c.args.tree.now c.args.tree.now c.eval_word.new.tree c.args.place p.1 p.2 c.in_err-first_text.ensures.same (here-refl c.args.tree.now c.args.place) c.eval_word.ensures.here
-
-pub words::call_two-eval_word-requires-2 : goal.words::call_two-eval_word-requires-2
-words::call_two-eval_word-requires-2 g t c κs within = (search rules, (search rules, still_running c.args.tree.now c.eval_word.new.tree c.args.place (here_text c.eval_word.result c.in_ok-first_text.first_text c.args.tree.now c.eval_word.new.tree c.args.place c.in_ok-first_text.ensures.text c.eval_word.ensures.here) c.requires.running))
-
-pub words::call_two-returns-in_err-second_text-clause-runs : goal.words::call_two-returns-in_err-second_text-clause-runs
-words::call_two-returns-in_err-second_text-clause-runs g t c =
-    let is : map seen_word c.args.words.now ≡ seen_word c.first-item.result ∷ seen_word c.second-item.result ∷ [] = ap (map seen_word) (two_items c.args.words.now c.first-item.result c.second-item.result c.in-len2.len_at_least c.in-len2.len_below c.first-item.is c.second-item.is) in
-    let single = subst AreSingle is c.requires.single in
-    let x1 = ran_text c.eval_word.result c.in_ok-first_text.first_text (EndsFrom (ways g.O.Outside.goes g.O.Outside.loses) c.args.tree.now c.args.outside.now c.args.place (λ style. parts (seen_word c.first-item.result).parts [] []) c.eval_word.new.tree c.eval_word.new.outside) c.in_ok-first_text.ensures.text c.eval_word.ensures.runs in
-    let p = err_from_is_err_and c.from_residual-in_err-second_text.result c.from_residual-in_err-second_text.ensures.1 in
-    ran_err c.from_residual-in_err-second_text.result c.in_err-second_text.field-0.0 p.0 _ _ _ p.1 p.2
-    (stays_of c.eval_word-2.result c.in_err-second_text.field-0.0 (EndsFrom (ways g.O.Outside.goes g.O.Outside.loses) c.eval_word.new.tree c.eval_word.new.outside c.args.place (λ style. parts (seen_word c.second-item.result).parts [] []) c.eval_word-2.new.tree c.eval_word-2.new.outside) c.in_err-second_text.ensures.same c.eval_word-2.ensures.runs c.in_err-second_text.ensures.stays)
-    (λ e h q style at.
-    let at1 = still_at c.args.tree.now c.eval_word.new.tree c.args.place q style (here_text c.eval_word.result c.in_ok-first_text.first_text c.args.tree.now c.eval_word.new.tree c.args.place c.in_ok-first_text.ensures.text c.eval_word.ensures.here) at in
-    at_prog (ap (λ (ws : List WordRead). words ws []) is)
-    (Steps.single_goes style (seen_word c.first-item.result) _ [] x1.0 c.in_ok-first_text.first_text single.0 x1.2 x1.3 (x1.1 q style at)
-    (Steps.word_stays style (seen_word c.second-item.result) _ (c.in_ok-first_text.first_text ∷ []) e h.1 (h.0 q style at1))))
-
-pub words::call_two-returns-in_err-second_text-clause-here : goal.words::call_two-returns-in_err-second_text-clause-here
-words::call_two-returns-in_err-second_text-clause-here g t c =
-    let p = err_from_is_err_and c.from_residual-in_err-second_text.result c.from_residual-in_err-second_text.ensures.1 in
-    here_passed c.from_residual-in_err-second_text.result c.eval_word-2.result c.in_err-second_text.field-0.0 p.0 c.args.tree.now c.eval_word.new.tree c.eval_word-2.new.tree c.args.place p.1 p.2 c.in_err-second_text.ensures.same (here_text c.eval_word.result c.in_ok-first_text.first_text c.args.tree.now c.eval_word.new.tree c.args.place c.in_ok-first_text.ensures.text c.eval_word.ensures.here) c.eval_word-2.ensures.here
-
-pub words::call_two-returns-in_err-second_text-clause-keeps : goal.words::call_two-returns-in_err-second_text-clause-keeps
-words::call_two-returns-in_err-second_text-clause-keeps g t c = keeps-trans c.eval_word.ensures.keeps c.eval_word-2.ensures.keeps
-
-pub words::call_two-call_texts-requires : goal.words::call_two-call_texts-requires
-words::call_two-call_texts-requires g t c κs within = (search rules, (search rules, still_running c.args.tree.now c.eval_word-2.new.tree c.args.place (here-trans c.args.tree.now c.eval_word.new.tree c.eval_word-2.new.tree c.args.place (here_text c.eval_word.result c.in_ok-first_text.first_text c.args.tree.now c.eval_word.new.tree c.args.place c.in_ok-first_text.ensures.text c.eval_word.ensures.here) (here_text c.eval_word-2.result c.in_ok-second_text.second_text c.eval_word.new.tree c.eval_word-2.new.tree c.args.place c.in_ok-second_text.ensures.text c.eval_word-2.ensures.here)) c.requires.running))
-
-pub words::call_two-returns-clause-runs : goal.words::call_two-returns-clause-runs
-words::call_two-returns-clause-runs g t c =
-    let is : map seen_word c.args.words.now ≡ seen_word c.first-item.result ∷ seen_word c.second-item.result ∷ [] = ap (map seen_word) (two_items c.args.words.now c.first-item.result c.second-item.result c.in-len2.len_at_least c.in-len2.len_below c.first-item.is c.second-item.is) in
-    let single = subst AreSingle is c.requires.single in
-    let x1 = ran_text c.eval_word.result c.in_ok-first_text.first_text (EndsFrom (ways g.O.Outside.goes g.O.Outside.loses) c.args.tree.now c.args.outside.now c.args.place (λ style. parts (seen_word c.first-item.result).parts [] []) c.eval_word.new.tree c.eval_word.new.outside) c.in_ok-first_text.ensures.text c.eval_word.ensures.runs in
-    let x2 = ran_text c.eval_word-2.result c.in_ok-second_text.second_text (EndsFrom (ways g.O.Outside.goes g.O.Outside.loses) c.eval_word.new.tree c.eval_word.new.outside c.args.place (λ style. parts (seen_word c.second-item.result).parts [] []) c.eval_word-2.new.tree c.eval_word-2.new.outside) c.in_ok-second_text.ensures.text c.eval_word-2.ensures.runs in
-    IfRan-more c.call_texts.result (EndsFrom (ways g.O.Outside.goes g.O.Outside.loses) c.eval_word-2.new.tree c.eval_word-2.new.outside c.args.place (λ style. words [] (c.in_ok-first_text.first_text ∷ c.in_ok-second_text.second_text ∷ [])) c.call_texts.new.tree c.call_texts.new.outside)
-    (EndsFrom (ways g.O.Outside.goes g.O.Outside.loses) c.args.tree.now c.args.outside.now c.args.place (λ style. words (map seen_word c.args.words.now) []) c.call_texts.new.tree c.call_texts.new.outside) (λ e h q style at.
-    let at1 = still_at c.args.tree.now c.eval_word.new.tree c.args.place q style (here_text c.eval_word.result c.in_ok-first_text.first_text c.args.tree.now c.eval_word.new.tree c.args.place c.in_ok-first_text.ensures.text c.eval_word.ensures.here) at in
-    let at2 = still_at c.eval_word.new.tree c.eval_word-2.new.tree c.args.place q style (here_text c.eval_word-2.result c.in_ok-second_text.second_text c.eval_word.new.tree c.eval_word-2.new.tree c.args.place c.in_ok-second_text.ensures.text c.eval_word-2.ensures.here) at1 in
-    at_prog (ap (λ (ws : List WordRead). words ws []) is)
-    (Steps.single_goes style (seen_word c.first-item.result) _ [] x1.0 c.in_ok-first_text.first_text single.0 x1.2 x1.3 (x1.1 q style at)
-    (Steps.single_goes style (seen_word c.second-item.result) _ (c.in_ok-first_text.first_text ∷ []) x2.0 c.in_ok-second_text.second_text single.1.0 x2.2 x2.3 (x2.1 q style at1)
-    (h q style at2)))) c.call_texts.ensures.runs
-
-pub words::call_two-returns-clause-here : goal.words::call_two-returns-clause-here
-words::call_two-returns-clause-here g t c = here_then c.call_texts.result c.args.tree.now c.eval_word-2.new.tree c.call_texts.new.tree c.args.place (here-trans c.args.tree.now c.eval_word.new.tree c.eval_word-2.new.tree c.args.place (here_text c.eval_word.result c.in_ok-first_text.first_text c.args.tree.now c.eval_word.new.tree c.args.place c.in_ok-first_text.ensures.text c.eval_word.ensures.here) (here_text c.eval_word-2.result c.in_ok-second_text.second_text c.eval_word.new.tree c.eval_word-2.new.tree c.args.place c.in_ok-second_text.ensures.text c.eval_word-2.ensures.here)) c.call_texts.ensures.here
-
-pub words::call_two-returns-clause-keeps : goal.words::call_two-returns-clause-keeps
-words::call_two-returns-clause-keeps g t c = keeps-trans (keeps-trans c.eval_word.ensures.keeps c.eval_word-2.ensures.keeps) c.call_texts.ensures.keeps
-
--- three words
-
-pub words::call_three-returns-in_err-first_text-clause-runs : goal.words::call_three-returns-in_err-first_text-clause-runs
-words::call_three-returns-in_err-first_text-clause-runs g t c =
-    let is : map seen_word c.args.words.now ≡ seen_word c.first-item.result ∷ seen_word c.second-item.result ∷ seen_word c.third-item.result ∷ [] = ap (map seen_word) (three_items c.args.words.now c.first-item.result c.second-item.result c.third-item.result c.in-len3.len_at_least c.in-len3.len_below c.first-item.is c.second-item.is c.third-item.is) in
-    let p = err_from_is_err_and c.from_residual.result c.from_residual.ensures.1 in
-    ran_err c.from_residual.result c.in_err-first_text.field-0.0 p.0 _ _ _ p.1 p.2
-    (stays_of c.eval_word.result c.in_err-first_text.field-0.0 (EndsFrom (ways g.O.Outside.goes g.O.Outside.loses) c.args.tree.now c.args.outside.now c.args.place (λ style. parts (seen_word c.first-item.result).parts [] []) c.eval_word.new.tree c.eval_word.new.outside) c.in_err-first_text.ensures.same c.eval_word.ensures.runs c.in_err-first_text.ensures.stays)
-    (λ e h q style at.
-    at_prog (ap (λ (ws : List WordRead). words ws []) is)
-    (Steps.word_stays style (seen_word c.first-item.result) _ [] e h.1 (h.0 q style at)))
-
-pub words::call_three-returns-in_err-first_text-clause-here : goal.words::call_three-returns-in_err-first_text-clause-here
-words::call_three-returns-in_err-first_text-clause-here g t c =
-    let p = err_from_is_err_and c.from_residual.result c.from_residual.ensures.1 in
-    here_passed c.from_residual.result c.eval_word.result c.in_err-first_text.field-0.0 p.0 c.args.tree.now c.args.tree.now c.eval_word.new.tree c.args.place p.1 p.2 c.in_err-first_text.ensures.same (here-refl c.args.tree.now c.args.place) c.eval_word.ensures.here
-
-pub words::call_three-eval_word-requires-2 : goal.words::call_three-eval_word-requires-2
-words::call_three-eval_word-requires-2 g t c κs within = (search rules, (search rules, still_running c.args.tree.now c.eval_word.new.tree c.args.place (here_text c.eval_word.result c.in_ok-first_text.first_text c.args.tree.now c.eval_word.new.tree c.args.place c.in_ok-first_text.ensures.text c.eval_word.ensures.here) c.requires.running))
-
-pub words::call_three-returns-in_err-second_text-clause-runs : goal.words::call_three-returns-in_err-second_text-clause-runs
-words::call_three-returns-in_err-second_text-clause-runs g t c =
-    let is : map seen_word c.args.words.now ≡ seen_word c.first-item.result ∷ seen_word c.second-item.result ∷ seen_word c.third-item.result ∷ [] = ap (map seen_word) (three_items c.args.words.now c.first-item.result c.second-item.result c.third-item.result c.in-len3.len_at_least c.in-len3.len_below c.first-item.is c.second-item.is c.third-item.is) in
-    let single = subst AreSingle is c.requires.single in
-    let x1 = ran_text c.eval_word.result c.in_ok-first_text.first_text (EndsFrom (ways g.O.Outside.goes g.O.Outside.loses) c.args.tree.now c.args.outside.now c.args.place (λ style. parts (seen_word c.first-item.result).parts [] []) c.eval_word.new.tree c.eval_word.new.outside) c.in_ok-first_text.ensures.text c.eval_word.ensures.runs in
-    let p = err_from_is_err_and c.from_residual-in_err-second_text.result c.from_residual-in_err-second_text.ensures.1 in
-    ran_err c.from_residual-in_err-second_text.result c.in_err-second_text.field-0.0 p.0 _ _ _ p.1 p.2
-    (stays_of c.eval_word-2.result c.in_err-second_text.field-0.0 (EndsFrom (ways g.O.Outside.goes g.O.Outside.loses) c.eval_word.new.tree c.eval_word.new.outside c.args.place (λ style. parts (seen_word c.second-item.result).parts [] []) c.eval_word-2.new.tree c.eval_word-2.new.outside) c.in_err-second_text.ensures.same c.eval_word-2.ensures.runs c.in_err-second_text.ensures.stays)
-    (λ e h q style at.
-    let at1 = still_at c.args.tree.now c.eval_word.new.tree c.args.place q style (here_text c.eval_word.result c.in_ok-first_text.first_text c.args.tree.now c.eval_word.new.tree c.args.place c.in_ok-first_text.ensures.text c.eval_word.ensures.here) at in
-    at_prog (ap (λ (ws : List WordRead). words ws []) is)
-    (Steps.single_goes style (seen_word c.first-item.result) _ [] x1.0 c.in_ok-first_text.first_text single.0 x1.2 x1.3 (x1.1 q style at)
-    (Steps.word_stays style (seen_word c.second-item.result) _ (c.in_ok-first_text.first_text ∷ []) e h.1 (h.0 q style at1))))
-
-pub words::call_three-returns-in_err-second_text-clause-here : goal.words::call_three-returns-in_err-second_text-clause-here
-words::call_three-returns-in_err-second_text-clause-here g t c =
-    let p = err_from_is_err_and c.from_residual-in_err-second_text.result c.from_residual-in_err-second_text.ensures.1 in
-    here_passed c.from_residual-in_err-second_text.result c.eval_word-2.result c.in_err-second_text.field-0.0 p.0 c.args.tree.now c.eval_word.new.tree c.eval_word-2.new.tree c.args.place p.1 p.2 c.in_err-second_text.ensures.same (here_text c.eval_word.result c.in_ok-first_text.first_text c.args.tree.now c.eval_word.new.tree c.args.place c.in_ok-first_text.ensures.text c.eval_word.ensures.here) c.eval_word-2.ensures.here
-
-pub words::call_three-returns-in_err-second_text-clause-keeps : goal.words::call_three-returns-in_err-second_text-clause-keeps
-words::call_three-returns-in_err-second_text-clause-keeps g t c = keeps-trans c.eval_word.ensures.keeps c.eval_word-2.ensures.keeps
-
-pub words::call_three-eval_word-requires-3 : goal.words::call_three-eval_word-requires-3
-words::call_three-eval_word-requires-3 g t c κs within = (search rules, (search rules, still_running c.args.tree.now c.eval_word-2.new.tree c.args.place (here-trans c.args.tree.now c.eval_word.new.tree c.eval_word-2.new.tree c.args.place (here_text c.eval_word.result c.in_ok-first_text.first_text c.args.tree.now c.eval_word.new.tree c.args.place c.in_ok-first_text.ensures.text c.eval_word.ensures.here) (here_text c.eval_word-2.result c.in_ok-second_text.second_text c.eval_word.new.tree c.eval_word-2.new.tree c.args.place c.in_ok-second_text.ensures.text c.eval_word-2.ensures.here)) c.requires.running))
-
-pub words::call_three-returns-in_err-third_text-clause-runs : goal.words::call_three-returns-in_err-third_text-clause-runs
-words::call_three-returns-in_err-third_text-clause-runs g t c =
-    let is : map seen_word c.args.words.now ≡ seen_word c.first-item.result ∷ seen_word c.second-item.result ∷ seen_word c.third-item.result ∷ [] = ap (map seen_word) (three_items c.args.words.now c.first-item.result c.second-item.result c.third-item.result c.in-len3.len_at_least c.in-len3.len_below c.first-item.is c.second-item.is c.third-item.is) in
-    let single = subst AreSingle is c.requires.single in
-    let x1 = ran_text c.eval_word.result c.in_ok-first_text.first_text (EndsFrom (ways g.O.Outside.goes g.O.Outside.loses) c.args.tree.now c.args.outside.now c.args.place (λ style. parts (seen_word c.first-item.result).parts [] []) c.eval_word.new.tree c.eval_word.new.outside) c.in_ok-first_text.ensures.text c.eval_word.ensures.runs in
-    let x2 = ran_text c.eval_word-2.result c.in_ok-second_text.second_text (EndsFrom (ways g.O.Outside.goes g.O.Outside.loses) c.eval_word.new.tree c.eval_word.new.outside c.args.place (λ style. parts (seen_word c.second-item.result).parts [] []) c.eval_word-2.new.tree c.eval_word-2.new.outside) c.in_ok-second_text.ensures.text c.eval_word-2.ensures.runs in
-    let p = err_from_is_err_and c.from_residual-in_err-third_text.result c.from_residual-in_err-third_text.ensures.1 in
-    ran_err c.from_residual-in_err-third_text.result c.in_err-third_text.field-0.0 p.0 _ _ _ p.1 p.2
-    (stays_of c.eval_word-3.result c.in_err-third_text.field-0.0 (EndsFrom (ways g.O.Outside.goes g.O.Outside.loses) c.eval_word-2.new.tree c.eval_word-2.new.outside c.args.place (λ style. parts (seen_word c.third-item.result).parts [] []) c.eval_word-3.new.tree c.eval_word-3.new.outside) c.in_err-third_text.ensures.same c.eval_word-3.ensures.runs c.in_err-third_text.ensures.stays)
-    (λ e h q style at.
-    let at1 = still_at c.args.tree.now c.eval_word.new.tree c.args.place q style (here_text c.eval_word.result c.in_ok-first_text.first_text c.args.tree.now c.eval_word.new.tree c.args.place c.in_ok-first_text.ensures.text c.eval_word.ensures.here) at in
-    let at2 = still_at c.eval_word.new.tree c.eval_word-2.new.tree c.args.place q style (here_text c.eval_word-2.result c.in_ok-second_text.second_text c.eval_word.new.tree c.eval_word-2.new.tree c.args.place c.in_ok-second_text.ensures.text c.eval_word-2.ensures.here) at1 in
-    at_prog (ap (λ (ws : List WordRead). words ws []) is)
-    (Steps.single_goes style (seen_word c.first-item.result) _ [] x1.0 c.in_ok-first_text.first_text single.0 x1.2 x1.3 (x1.1 q style at)
-    (Steps.single_goes style (seen_word c.second-item.result) _ (c.in_ok-first_text.first_text ∷ []) x2.0 c.in_ok-second_text.second_text single.1.0 x2.2 x2.3 (x2.1 q style at1)
-    (Steps.word_stays style (seen_word c.third-item.result) _ (c.in_ok-first_text.first_text ∷ c.in_ok-second_text.second_text ∷ []) e h.1 (h.0 q style at2)))))
-
-pub words::call_three-returns-in_err-third_text-clause-here : goal.words::call_three-returns-in_err-third_text-clause-here
-words::call_three-returns-in_err-third_text-clause-here g t c =
-    let p = err_from_is_err_and c.from_residual-in_err-third_text.result c.from_residual-in_err-third_text.ensures.1 in
-    here_passed c.from_residual-in_err-third_text.result c.eval_word-3.result c.in_err-third_text.field-0.0 p.0 c.args.tree.now c.eval_word-2.new.tree c.eval_word-3.new.tree c.args.place p.1 p.2 c.in_err-third_text.ensures.same (here-trans c.args.tree.now c.eval_word.new.tree c.eval_word-2.new.tree c.args.place (here_text c.eval_word.result c.in_ok-first_text.first_text c.args.tree.now c.eval_word.new.tree c.args.place c.in_ok-first_text.ensures.text c.eval_word.ensures.here) (here_text c.eval_word-2.result c.in_ok-second_text.second_text c.eval_word.new.tree c.eval_word-2.new.tree c.args.place c.in_ok-second_text.ensures.text c.eval_word-2.ensures.here)) c.eval_word-3.ensures.here
-
-pub words::call_three-returns-in_err-third_text-clause-keeps : goal.words::call_three-returns-in_err-third_text-clause-keeps
-words::call_three-returns-in_err-third_text-clause-keeps g t c = keeps-trans (keeps-trans c.eval_word.ensures.keeps c.eval_word-2.ensures.keeps) c.eval_word-3.ensures.keeps
-
-pub words::call_three-call_texts-requires : goal.words::call_three-call_texts-requires
-words::call_three-call_texts-requires g t c κs within = (search rules, (search rules, still_running c.args.tree.now c.eval_word-3.new.tree c.args.place (here-trans c.args.tree.now c.eval_word-2.new.tree c.eval_word-3.new.tree c.args.place (here-trans c.args.tree.now c.eval_word.new.tree c.eval_word-2.new.tree c.args.place (here_text c.eval_word.result c.in_ok-first_text.first_text c.args.tree.now c.eval_word.new.tree c.args.place c.in_ok-first_text.ensures.text c.eval_word.ensures.here) (here_text c.eval_word-2.result c.in_ok-second_text.second_text c.eval_word.new.tree c.eval_word-2.new.tree c.args.place c.in_ok-second_text.ensures.text c.eval_word-2.ensures.here)) (here_text c.eval_word-3.result c.in_ok-third_text.third_text c.eval_word-2.new.tree c.eval_word-3.new.tree c.args.place c.in_ok-third_text.ensures.text c.eval_word-3.ensures.here)) c.requires.running))
-
-pub words::call_three-returns-clause-runs : goal.words::call_three-returns-clause-runs
-words::call_three-returns-clause-runs g t c =
-    let is : map seen_word c.args.words.now ≡ seen_word c.first-item.result ∷ seen_word c.second-item.result ∷ seen_word c.third-item.result ∷ [] = ap (map seen_word) (three_items c.args.words.now c.first-item.result c.second-item.result c.third-item.result c.in-len3.len_at_least c.in-len3.len_below c.first-item.is c.second-item.is c.third-item.is) in
-    let single = subst AreSingle is c.requires.single in
-    let x1 = ran_text c.eval_word.result c.in_ok-first_text.first_text (EndsFrom (ways g.O.Outside.goes g.O.Outside.loses) c.args.tree.now c.args.outside.now c.args.place (λ style. parts (seen_word c.first-item.result).parts [] []) c.eval_word.new.tree c.eval_word.new.outside) c.in_ok-first_text.ensures.text c.eval_word.ensures.runs in
-    let x2 = ran_text c.eval_word-2.result c.in_ok-second_text.second_text (EndsFrom (ways g.O.Outside.goes g.O.Outside.loses) c.eval_word.new.tree c.eval_word.new.outside c.args.place (λ style. parts (seen_word c.second-item.result).parts [] []) c.eval_word-2.new.tree c.eval_word-2.new.outside) c.in_ok-second_text.ensures.text c.eval_word-2.ensures.runs in
-    let x3 = ran_text c.eval_word-3.result c.in_ok-third_text.third_text (EndsFrom (ways g.O.Outside.goes g.O.Outside.loses) c.eval_word-2.new.tree c.eval_word-2.new.outside c.args.place (λ style. parts (seen_word c.third-item.result).parts [] []) c.eval_word-3.new.tree c.eval_word-3.new.outside) c.in_ok-third_text.ensures.text c.eval_word-3.ensures.runs in
-    IfRan-more c.call_texts.result (EndsFrom (ways g.O.Outside.goes g.O.Outside.loses) c.eval_word-3.new.tree c.eval_word-3.new.outside c.args.place (λ style. words [] (c.in_ok-first_text.first_text ∷ c.in_ok-second_text.second_text ∷ c.in_ok-third_text.third_text ∷ [])) c.call_texts.new.tree c.call_texts.new.outside)
-    (EndsFrom (ways g.O.Outside.goes g.O.Outside.loses) c.args.tree.now c.args.outside.now c.args.place (λ style. words (map seen_word c.args.words.now) []) c.call_texts.new.tree c.call_texts.new.outside) (λ e h q style at.
-    let at1 = still_at c.args.tree.now c.eval_word.new.tree c.args.place q style (here_text c.eval_word.result c.in_ok-first_text.first_text c.args.tree.now c.eval_word.new.tree c.args.place c.in_ok-first_text.ensures.text c.eval_word.ensures.here) at in
-    let at2 = still_at c.eval_word.new.tree c.eval_word-2.new.tree c.args.place q style (here_text c.eval_word-2.result c.in_ok-second_text.second_text c.eval_word.new.tree c.eval_word-2.new.tree c.args.place c.in_ok-second_text.ensures.text c.eval_word-2.ensures.here) at1 in
-    let at3 = still_at c.eval_word-2.new.tree c.eval_word-3.new.tree c.args.place q style (here_text c.eval_word-3.result c.in_ok-third_text.third_text c.eval_word-2.new.tree c.eval_word-3.new.tree c.args.place c.in_ok-third_text.ensures.text c.eval_word-3.ensures.here) at2 in
-    at_prog (ap (λ (ws : List WordRead). words ws []) is)
-    (Steps.single_goes style (seen_word c.first-item.result) _ [] x1.0 c.in_ok-first_text.first_text single.0 x1.2 x1.3 (x1.1 q style at)
-    (Steps.single_goes style (seen_word c.second-item.result) _ (c.in_ok-first_text.first_text ∷ []) x2.0 c.in_ok-second_text.second_text single.1.0 x2.2 x2.3 (x2.1 q style at1)
-    (Steps.single_goes style (seen_word c.third-item.result) _ (c.in_ok-first_text.first_text ∷ c.in_ok-second_text.second_text ∷ []) x3.0 c.in_ok-third_text.third_text single.1.1.0 x3.2 x3.3 (x3.1 q style at2)
-    (h q style at3))))) c.call_texts.ensures.runs
-
-pub words::call_three-returns-clause-here : goal.words::call_three-returns-clause-here
-words::call_three-returns-clause-here g t c = here_then c.call_texts.result c.args.tree.now c.eval_word-3.new.tree c.call_texts.new.tree c.args.place (here-trans c.args.tree.now c.eval_word-2.new.tree c.eval_word-3.new.tree c.args.place (here-trans c.args.tree.now c.eval_word.new.tree c.eval_word-2.new.tree c.args.place (here_text c.eval_word.result c.in_ok-first_text.first_text c.args.tree.now c.eval_word.new.tree c.args.place c.in_ok-first_text.ensures.text c.eval_word.ensures.here) (here_text c.eval_word-2.result c.in_ok-second_text.second_text c.eval_word.new.tree c.eval_word-2.new.tree c.args.place c.in_ok-second_text.ensures.text c.eval_word-2.ensures.here)) (here_text c.eval_word-3.result c.in_ok-third_text.third_text c.eval_word-2.new.tree c.eval_word-3.new.tree c.args.place c.in_ok-third_text.ensures.text c.eval_word-3.ensures.here)) c.call_texts.ensures.here
-
-pub words::call_three-returns-clause-keeps : goal.words::call_three-returns-clause-keeps
-words::call_three-returns-clause-keeps g t c = keeps-trans (keeps-trans (keeps-trans c.eval_word.ensures.keeps c.eval_word-2.ensures.keeps) c.eval_word-3.ensures.keeps) c.call_texts.ensures.keeps
-
--- four words
-
-pub words::call_four-returns-in_err-first_text-clause-runs : goal.words::call_four-returns-in_err-first_text-clause-runs
-words::call_four-returns-in_err-first_text-clause-runs g t c =
-    let is : map seen_word c.args.words.now ≡ seen_word c.first-item.result ∷ seen_word c.second-item.result ∷ seen_word c.third-item.result ∷ seen_word c.fourth-item.result ∷ [] = ap (map seen_word) (four_items c.args.words.now c.first-item.result c.second-item.result c.third-item.result c.fourth-item.result c.in-len4.len_at_least c.in-len4.len_below c.first-item.is c.second-item.is c.third-item.is c.fourth-item.is) in
-    let p = err_from_is_err_and c.from_residual.result c.from_residual.ensures.1 in
-    ran_err c.from_residual.result c.in_err-first_text.field-0.0 p.0 _ _ _ p.1 p.2
-    (stays_of c.eval_word.result c.in_err-first_text.field-0.0 (EndsFrom (ways g.O.Outside.goes g.O.Outside.loses) c.args.tree.now c.args.outside.now c.args.place (λ style. parts (seen_word c.first-item.result).parts [] []) c.eval_word.new.tree c.eval_word.new.outside) c.in_err-first_text.ensures.same c.eval_word.ensures.runs c.in_err-first_text.ensures.stays)
-    (λ e h q style at.
-    at_prog (ap (λ (ws : List WordRead). words ws []) is)
-    (Steps.word_stays style (seen_word c.first-item.result) _ [] e h.1 (h.0 q style at)))
-
-pub words::call_four-returns-in_err-first_text-clause-here : goal.words::call_four-returns-in_err-first_text-clause-here
-words::call_four-returns-in_err-first_text-clause-here g t c =
-    let p = err_from_is_err_and c.from_residual.result c.from_residual.ensures.1 in
-    here_passed c.from_residual.result c.eval_word.result c.in_err-first_text.field-0.0 p.0 c.args.tree.now c.args.tree.now c.eval_word.new.tree c.args.place p.1 p.2 c.in_err-first_text.ensures.same (here-refl c.args.tree.now c.args.place) c.eval_word.ensures.here
-
-pub words::call_four-eval_word-requires-2 : goal.words::call_four-eval_word-requires-2
-words::call_four-eval_word-requires-2 g t c κs within = (search rules, (search rules, still_running c.args.tree.now c.eval_word.new.tree c.args.place (here_text c.eval_word.result c.in_ok-first_text.first_text c.args.tree.now c.eval_word.new.tree c.args.place c.in_ok-first_text.ensures.text c.eval_word.ensures.here) c.requires.running))
-
-pub words::call_four-returns-in_err-second_text-clause-runs : goal.words::call_four-returns-in_err-second_text-clause-runs
-words::call_four-returns-in_err-second_text-clause-runs g t c =
-    let is : map seen_word c.args.words.now ≡ seen_word c.first-item.result ∷ seen_word c.second-item.result ∷ seen_word c.third-item.result ∷ seen_word c.fourth-item.result ∷ [] = ap (map seen_word) (four_items c.args.words.now c.first-item.result c.second-item.result c.third-item.result c.fourth-item.result c.in-len4.len_at_least c.in-len4.len_below c.first-item.is c.second-item.is c.third-item.is c.fourth-item.is) in
-    let single = subst AreSingle is c.requires.single in
-    let x1 = ran_text c.eval_word.result c.in_ok-first_text.first_text (EndsFrom (ways g.O.Outside.goes g.O.Outside.loses) c.args.tree.now c.args.outside.now c.args.place (λ style. parts (seen_word c.first-item.result).parts [] []) c.eval_word.new.tree c.eval_word.new.outside) c.in_ok-first_text.ensures.text c.eval_word.ensures.runs in
-    let p = err_from_is_err_and c.from_residual-in_err-second_text.result c.from_residual-in_err-second_text.ensures.1 in
-    ran_err c.from_residual-in_err-second_text.result c.in_err-second_text.field-0.0 p.0 _ _ _ p.1 p.2
-    (stays_of c.eval_word-2.result c.in_err-second_text.field-0.0 (EndsFrom (ways g.O.Outside.goes g.O.Outside.loses) c.eval_word.new.tree c.eval_word.new.outside c.args.place (λ style. parts (seen_word c.second-item.result).parts [] []) c.eval_word-2.new.tree c.eval_word-2.new.outside) c.in_err-second_text.ensures.same c.eval_word-2.ensures.runs c.in_err-second_text.ensures.stays)
-    (λ e h q style at.
-    let at1 = still_at c.args.tree.now c.eval_word.new.tree c.args.place q style (here_text c.eval_word.result c.in_ok-first_text.first_text c.args.tree.now c.eval_word.new.tree c.args.place c.in_ok-first_text.ensures.text c.eval_word.ensures.here) at in
-    at_prog (ap (λ (ws : List WordRead). words ws []) is)
-    (Steps.single_goes style (seen_word c.first-item.result) _ [] x1.0 c.in_ok-first_text.first_text single.0 x1.2 x1.3 (x1.1 q style at)
-    (Steps.word_stays style (seen_word c.second-item.result) _ (c.in_ok-first_text.first_text ∷ []) e h.1 (h.0 q style at1))))
-
-pub words::call_four-returns-in_err-second_text-clause-here : goal.words::call_four-returns-in_err-second_text-clause-here
-words::call_four-returns-in_err-second_text-clause-here g t c =
-    let p = err_from_is_err_and c.from_residual-in_err-second_text.result c.from_residual-in_err-second_text.ensures.1 in
-    here_passed c.from_residual-in_err-second_text.result c.eval_word-2.result c.in_err-second_text.field-0.0 p.0 c.args.tree.now c.eval_word.new.tree c.eval_word-2.new.tree c.args.place p.1 p.2 c.in_err-second_text.ensures.same (here_text c.eval_word.result c.in_ok-first_text.first_text c.args.tree.now c.eval_word.new.tree c.args.place c.in_ok-first_text.ensures.text c.eval_word.ensures.here) c.eval_word-2.ensures.here
-
-pub words::call_four-returns-in_err-second_text-clause-keeps : goal.words::call_four-returns-in_err-second_text-clause-keeps
-words::call_four-returns-in_err-second_text-clause-keeps g t c = keeps-trans c.eval_word.ensures.keeps c.eval_word-2.ensures.keeps
-
-pub words::call_four-eval_word-requires-3 : goal.words::call_four-eval_word-requires-3
-words::call_four-eval_word-requires-3 g t c κs within = (search rules, (search rules, still_running c.args.tree.now c.eval_word-2.new.tree c.args.place (here-trans c.args.tree.now c.eval_word.new.tree c.eval_word-2.new.tree c.args.place (here_text c.eval_word.result c.in_ok-first_text.first_text c.args.tree.now c.eval_word.new.tree c.args.place c.in_ok-first_text.ensures.text c.eval_word.ensures.here) (here_text c.eval_word-2.result c.in_ok-second_text.second_text c.eval_word.new.tree c.eval_word-2.new.tree c.args.place c.in_ok-second_text.ensures.text c.eval_word-2.ensures.here)) c.requires.running))
-
-pub words::call_four-returns-in_err-third_text-clause-runs : goal.words::call_four-returns-in_err-third_text-clause-runs
-words::call_four-returns-in_err-third_text-clause-runs g t c =
-    let is : map seen_word c.args.words.now ≡ seen_word c.first-item.result ∷ seen_word c.second-item.result ∷ seen_word c.third-item.result ∷ seen_word c.fourth-item.result ∷ [] = ap (map seen_word) (four_items c.args.words.now c.first-item.result c.second-item.result c.third-item.result c.fourth-item.result c.in-len4.len_at_least c.in-len4.len_below c.first-item.is c.second-item.is c.third-item.is c.fourth-item.is) in
-    let single = subst AreSingle is c.requires.single in
-    let x1 = ran_text c.eval_word.result c.in_ok-first_text.first_text (EndsFrom (ways g.O.Outside.goes g.O.Outside.loses) c.args.tree.now c.args.outside.now c.args.place (λ style. parts (seen_word c.first-item.result).parts [] []) c.eval_word.new.tree c.eval_word.new.outside) c.in_ok-first_text.ensures.text c.eval_word.ensures.runs in
-    let x2 = ran_text c.eval_word-2.result c.in_ok-second_text.second_text (EndsFrom (ways g.O.Outside.goes g.O.Outside.loses) c.eval_word.new.tree c.eval_word.new.outside c.args.place (λ style. parts (seen_word c.second-item.result).parts [] []) c.eval_word-2.new.tree c.eval_word-2.new.outside) c.in_ok-second_text.ensures.text c.eval_word-2.ensures.runs in
-    let p = err_from_is_err_and c.from_residual-in_err-third_text.result c.from_residual-in_err-third_text.ensures.1 in
-    ran_err c.from_residual-in_err-third_text.result c.in_err-third_text.field-0.0 p.0 _ _ _ p.1 p.2
-    (stays_of c.eval_word-3.result c.in_err-third_text.field-0.0 (EndsFrom (ways g.O.Outside.goes g.O.Outside.loses) c.eval_word-2.new.tree c.eval_word-2.new.outside c.args.place (λ style. parts (seen_word c.third-item.result).parts [] []) c.eval_word-3.new.tree c.eval_word-3.new.outside) c.in_err-third_text.ensures.same c.eval_word-3.ensures.runs c.in_err-third_text.ensures.stays)
-    (λ e h q style at.
-    let at1 = still_at c.args.tree.now c.eval_word.new.tree c.args.place q style (here_text c.eval_word.result c.in_ok-first_text.first_text c.args.tree.now c.eval_word.new.tree c.args.place c.in_ok-first_text.ensures.text c.eval_word.ensures.here) at in
-    let at2 = still_at c.eval_word.new.tree c.eval_word-2.new.tree c.args.place q style (here_text c.eval_word-2.result c.in_ok-second_text.second_text c.eval_word.new.tree c.eval_word-2.new.tree c.args.place c.in_ok-second_text.ensures.text c.eval_word-2.ensures.here) at1 in
-    at_prog (ap (λ (ws : List WordRead). words ws []) is)
-    (Steps.single_goes style (seen_word c.first-item.result) _ [] x1.0 c.in_ok-first_text.first_text single.0 x1.2 x1.3 (x1.1 q style at)
-    (Steps.single_goes style (seen_word c.second-item.result) _ (c.in_ok-first_text.first_text ∷ []) x2.0 c.in_ok-second_text.second_text single.1.0 x2.2 x2.3 (x2.1 q style at1)
-    (Steps.word_stays style (seen_word c.third-item.result) _ (c.in_ok-first_text.first_text ∷ c.in_ok-second_text.second_text ∷ []) e h.1 (h.0 q style at2)))))
-
-pub words::call_four-returns-in_err-third_text-clause-here : goal.words::call_four-returns-in_err-third_text-clause-here
-words::call_four-returns-in_err-third_text-clause-here g t c =
-    let p = err_from_is_err_and c.from_residual-in_err-third_text.result c.from_residual-in_err-third_text.ensures.1 in
-    here_passed c.from_residual-in_err-third_text.result c.eval_word-3.result c.in_err-third_text.field-0.0 p.0 c.args.tree.now c.eval_word-2.new.tree c.eval_word-3.new.tree c.args.place p.1 p.2 c.in_err-third_text.ensures.same (here-trans c.args.tree.now c.eval_word.new.tree c.eval_word-2.new.tree c.args.place (here_text c.eval_word.result c.in_ok-first_text.first_text c.args.tree.now c.eval_word.new.tree c.args.place c.in_ok-first_text.ensures.text c.eval_word.ensures.here) (here_text c.eval_word-2.result c.in_ok-second_text.second_text c.eval_word.new.tree c.eval_word-2.new.tree c.args.place c.in_ok-second_text.ensures.text c.eval_word-2.ensures.here)) c.eval_word-3.ensures.here
-
-pub words::call_four-returns-in_err-third_text-clause-keeps : goal.words::call_four-returns-in_err-third_text-clause-keeps
-words::call_four-returns-in_err-third_text-clause-keeps g t c = keeps-trans (keeps-trans c.eval_word.ensures.keeps c.eval_word-2.ensures.keeps) c.eval_word-3.ensures.keeps
-
-pub words::call_four-eval_word-requires-4 : goal.words::call_four-eval_word-requires-4
-words::call_four-eval_word-requires-4 g t c κs within = (search rules, (search rules, still_running c.args.tree.now c.eval_word-3.new.tree c.args.place (here-trans c.args.tree.now c.eval_word-2.new.tree c.eval_word-3.new.tree c.args.place (here-trans c.args.tree.now c.eval_word.new.tree c.eval_word-2.new.tree c.args.place (here_text c.eval_word.result c.in_ok-first_text.first_text c.args.tree.now c.eval_word.new.tree c.args.place c.in_ok-first_text.ensures.text c.eval_word.ensures.here) (here_text c.eval_word-2.result c.in_ok-second_text.second_text c.eval_word.new.tree c.eval_word-2.new.tree c.args.place c.in_ok-second_text.ensures.text c.eval_word-2.ensures.here)) (here_text c.eval_word-3.result c.in_ok-third_text.third_text c.eval_word-2.new.tree c.eval_word-3.new.tree c.args.place c.in_ok-third_text.ensures.text c.eval_word-3.ensures.here)) c.requires.running))
-
-pub words::call_four-returns-in_err-fourth_text-clause-runs : goal.words::call_four-returns-in_err-fourth_text-clause-runs
-words::call_four-returns-in_err-fourth_text-clause-runs g t c =
-    let is : map seen_word c.args.words.now ≡ seen_word c.first-item.result ∷ seen_word c.second-item.result ∷ seen_word c.third-item.result ∷ seen_word c.fourth-item.result ∷ [] = ap (map seen_word) (four_items c.args.words.now c.first-item.result c.second-item.result c.third-item.result c.fourth-item.result c.in-len4.len_at_least c.in-len4.len_below c.first-item.is c.second-item.is c.third-item.is c.fourth-item.is) in
-    let single = subst AreSingle is c.requires.single in
-    let x1 = ran_text c.eval_word.result c.in_ok-first_text.first_text (EndsFrom (ways g.O.Outside.goes g.O.Outside.loses) c.args.tree.now c.args.outside.now c.args.place (λ style. parts (seen_word c.first-item.result).parts [] []) c.eval_word.new.tree c.eval_word.new.outside) c.in_ok-first_text.ensures.text c.eval_word.ensures.runs in
-    let x2 = ran_text c.eval_word-2.result c.in_ok-second_text.second_text (EndsFrom (ways g.O.Outside.goes g.O.Outside.loses) c.eval_word.new.tree c.eval_word.new.outside c.args.place (λ style. parts (seen_word c.second-item.result).parts [] []) c.eval_word-2.new.tree c.eval_word-2.new.outside) c.in_ok-second_text.ensures.text c.eval_word-2.ensures.runs in
-    let x3 = ran_text c.eval_word-3.result c.in_ok-third_text.third_text (EndsFrom (ways g.O.Outside.goes g.O.Outside.loses) c.eval_word-2.new.tree c.eval_word-2.new.outside c.args.place (λ style. parts (seen_word c.third-item.result).parts [] []) c.eval_word-3.new.tree c.eval_word-3.new.outside) c.in_ok-third_text.ensures.text c.eval_word-3.ensures.runs in
-    let p = err_from_is_err_and c.from_residual-in_err-fourth_text.result c.from_residual-in_err-fourth_text.ensures.1 in
-    ran_err c.from_residual-in_err-fourth_text.result c.in_err-fourth_text.field-0.0 p.0 _ _ _ p.1 p.2
-    (stays_of c.eval_word-4.result c.in_err-fourth_text.field-0.0 (EndsFrom (ways g.O.Outside.goes g.O.Outside.loses) c.eval_word-3.new.tree c.eval_word-3.new.outside c.args.place (λ style. parts (seen_word c.fourth-item.result).parts [] []) c.eval_word-4.new.tree c.eval_word-4.new.outside) c.in_err-fourth_text.ensures.same c.eval_word-4.ensures.runs c.in_err-fourth_text.ensures.stays)
-    (λ e h q style at.
-    let at1 = still_at c.args.tree.now c.eval_word.new.tree c.args.place q style (here_text c.eval_word.result c.in_ok-first_text.first_text c.args.tree.now c.eval_word.new.tree c.args.place c.in_ok-first_text.ensures.text c.eval_word.ensures.here) at in
-    let at2 = still_at c.eval_word.new.tree c.eval_word-2.new.tree c.args.place q style (here_text c.eval_word-2.result c.in_ok-second_text.second_text c.eval_word.new.tree c.eval_word-2.new.tree c.args.place c.in_ok-second_text.ensures.text c.eval_word-2.ensures.here) at1 in
-    let at3 = still_at c.eval_word-2.new.tree c.eval_word-3.new.tree c.args.place q style (here_text c.eval_word-3.result c.in_ok-third_text.third_text c.eval_word-2.new.tree c.eval_word-3.new.tree c.args.place c.in_ok-third_text.ensures.text c.eval_word-3.ensures.here) at2 in
-    at_prog (ap (λ (ws : List WordRead). words ws []) is)
-    (Steps.single_goes style (seen_word c.first-item.result) _ [] x1.0 c.in_ok-first_text.first_text single.0 x1.2 x1.3 (x1.1 q style at)
-    (Steps.single_goes style (seen_word c.second-item.result) _ (c.in_ok-first_text.first_text ∷ []) x2.0 c.in_ok-second_text.second_text single.1.0 x2.2 x2.3 (x2.1 q style at1)
-    (Steps.single_goes style (seen_word c.third-item.result) _ (c.in_ok-first_text.first_text ∷ c.in_ok-second_text.second_text ∷ []) x3.0 c.in_ok-third_text.third_text single.1.1.0 x3.2 x3.3 (x3.1 q style at2)
-    (Steps.word_stays style (seen_word c.fourth-item.result) _ (c.in_ok-first_text.first_text ∷ c.in_ok-second_text.second_text ∷ c.in_ok-third_text.third_text ∷ []) e h.1 (h.0 q style at3))))))
-
-pub words::call_four-returns-in_err-fourth_text-clause-here : goal.words::call_four-returns-in_err-fourth_text-clause-here
-words::call_four-returns-in_err-fourth_text-clause-here g t c =
-    let p = err_from_is_err_and c.from_residual-in_err-fourth_text.result c.from_residual-in_err-fourth_text.ensures.1 in
-    here_passed c.from_residual-in_err-fourth_text.result c.eval_word-4.result c.in_err-fourth_text.field-0.0 p.0 c.args.tree.now c.eval_word-3.new.tree c.eval_word-4.new.tree c.args.place p.1 p.2 c.in_err-fourth_text.ensures.same (here-trans c.args.tree.now c.eval_word-2.new.tree c.eval_word-3.new.tree c.args.place (here-trans c.args.tree.now c.eval_word.new.tree c.eval_word-2.new.tree c.args.place (here_text c.eval_word.result c.in_ok-first_text.first_text c.args.tree.now c.eval_word.new.tree c.args.place c.in_ok-first_text.ensures.text c.eval_word.ensures.here) (here_text c.eval_word-2.result c.in_ok-second_text.second_text c.eval_word.new.tree c.eval_word-2.new.tree c.args.place c.in_ok-second_text.ensures.text c.eval_word-2.ensures.here)) (here_text c.eval_word-3.result c.in_ok-third_text.third_text c.eval_word-2.new.tree c.eval_word-3.new.tree c.args.place c.in_ok-third_text.ensures.text c.eval_word-3.ensures.here)) c.eval_word-4.ensures.here
-
-pub words::call_four-returns-in_err-fourth_text-clause-keeps : goal.words::call_four-returns-in_err-fourth_text-clause-keeps
-words::call_four-returns-in_err-fourth_text-clause-keeps g t c = keeps-trans (keeps-trans (keeps-trans c.eval_word.ensures.keeps c.eval_word-2.ensures.keeps) c.eval_word-3.ensures.keeps) c.eval_word-4.ensures.keeps
-
-pub words::call_four-call_texts-requires : goal.words::call_four-call_texts-requires
-words::call_four-call_texts-requires g t c κs within = (search rules, (search rules, still_running c.args.tree.now c.eval_word-4.new.tree c.args.place (here-trans c.args.tree.now c.eval_word-3.new.tree c.eval_word-4.new.tree c.args.place (here-trans c.args.tree.now c.eval_word-2.new.tree c.eval_word-3.new.tree c.args.place (here-trans c.args.tree.now c.eval_word.new.tree c.eval_word-2.new.tree c.args.place (here_text c.eval_word.result c.in_ok-first_text.first_text c.args.tree.now c.eval_word.new.tree c.args.place c.in_ok-first_text.ensures.text c.eval_word.ensures.here) (here_text c.eval_word-2.result c.in_ok-second_text.second_text c.eval_word.new.tree c.eval_word-2.new.tree c.args.place c.in_ok-second_text.ensures.text c.eval_word-2.ensures.here)) (here_text c.eval_word-3.result c.in_ok-third_text.third_text c.eval_word-2.new.tree c.eval_word-3.new.tree c.args.place c.in_ok-third_text.ensures.text c.eval_word-3.ensures.here)) (here_text c.eval_word-4.result c.in_ok-fourth_text.fourth_text c.eval_word-3.new.tree c.eval_word-4.new.tree c.args.place c.in_ok-fourth_text.ensures.text c.eval_word-4.ensures.here)) c.requires.running))
-
-pub words::call_four-returns-clause-runs : goal.words::call_four-returns-clause-runs
-words::call_four-returns-clause-runs g t c =
-    let is : map seen_word c.args.words.now ≡ seen_word c.first-item.result ∷ seen_word c.second-item.result ∷ seen_word c.third-item.result ∷ seen_word c.fourth-item.result ∷ [] = ap (map seen_word) (four_items c.args.words.now c.first-item.result c.second-item.result c.third-item.result c.fourth-item.result c.in-len4.len_at_least c.in-len4.len_below c.first-item.is c.second-item.is c.third-item.is c.fourth-item.is) in
-    let single = subst AreSingle is c.requires.single in
-    let x1 = ran_text c.eval_word.result c.in_ok-first_text.first_text (EndsFrom (ways g.O.Outside.goes g.O.Outside.loses) c.args.tree.now c.args.outside.now c.args.place (λ style. parts (seen_word c.first-item.result).parts [] []) c.eval_word.new.tree c.eval_word.new.outside) c.in_ok-first_text.ensures.text c.eval_word.ensures.runs in
-    let x2 = ran_text c.eval_word-2.result c.in_ok-second_text.second_text (EndsFrom (ways g.O.Outside.goes g.O.Outside.loses) c.eval_word.new.tree c.eval_word.new.outside c.args.place (λ style. parts (seen_word c.second-item.result).parts [] []) c.eval_word-2.new.tree c.eval_word-2.new.outside) c.in_ok-second_text.ensures.text c.eval_word-2.ensures.runs in
-    let x3 = ran_text c.eval_word-3.result c.in_ok-third_text.third_text (EndsFrom (ways g.O.Outside.goes g.O.Outside.loses) c.eval_word-2.new.tree c.eval_word-2.new.outside c.args.place (λ style. parts (seen_word c.third-item.result).parts [] []) c.eval_word-3.new.tree c.eval_word-3.new.outside) c.in_ok-third_text.ensures.text c.eval_word-3.ensures.runs in
-    let x4 = ran_text c.eval_word-4.result c.in_ok-fourth_text.fourth_text (EndsFrom (ways g.O.Outside.goes g.O.Outside.loses) c.eval_word-3.new.tree c.eval_word-3.new.outside c.args.place (λ style. parts (seen_word c.fourth-item.result).parts [] []) c.eval_word-4.new.tree c.eval_word-4.new.outside) c.in_ok-fourth_text.ensures.text c.eval_word-4.ensures.runs in
-    IfRan-more c.call_texts.result (EndsFrom (ways g.O.Outside.goes g.O.Outside.loses) c.eval_word-4.new.tree c.eval_word-4.new.outside c.args.place (λ style. words [] (c.in_ok-first_text.first_text ∷ c.in_ok-second_text.second_text ∷ c.in_ok-third_text.third_text ∷ c.in_ok-fourth_text.fourth_text ∷ [])) c.call_texts.new.tree c.call_texts.new.outside)
-    (EndsFrom (ways g.O.Outside.goes g.O.Outside.loses) c.args.tree.now c.args.outside.now c.args.place (λ style. words (map seen_word c.args.words.now) []) c.call_texts.new.tree c.call_texts.new.outside) (λ e h q style at.
-    let at1 = still_at c.args.tree.now c.eval_word.new.tree c.args.place q style (here_text c.eval_word.result c.in_ok-first_text.first_text c.args.tree.now c.eval_word.new.tree c.args.place c.in_ok-first_text.ensures.text c.eval_word.ensures.here) at in
-    let at2 = still_at c.eval_word.new.tree c.eval_word-2.new.tree c.args.place q style (here_text c.eval_word-2.result c.in_ok-second_text.second_text c.eval_word.new.tree c.eval_word-2.new.tree c.args.place c.in_ok-second_text.ensures.text c.eval_word-2.ensures.here) at1 in
-    let at3 = still_at c.eval_word-2.new.tree c.eval_word-3.new.tree c.args.place q style (here_text c.eval_word-3.result c.in_ok-third_text.third_text c.eval_word-2.new.tree c.eval_word-3.new.tree c.args.place c.in_ok-third_text.ensures.text c.eval_word-3.ensures.here) at2 in
-    let at4 = still_at c.eval_word-3.new.tree c.eval_word-4.new.tree c.args.place q style (here_text c.eval_word-4.result c.in_ok-fourth_text.fourth_text c.eval_word-3.new.tree c.eval_word-4.new.tree c.args.place c.in_ok-fourth_text.ensures.text c.eval_word-4.ensures.here) at3 in
-    at_prog (ap (λ (ws : List WordRead). words ws []) is)
-    (Steps.single_goes style (seen_word c.first-item.result) _ [] x1.0 c.in_ok-first_text.first_text single.0 x1.2 x1.3 (x1.1 q style at)
-    (Steps.single_goes style (seen_word c.second-item.result) _ (c.in_ok-first_text.first_text ∷ []) x2.0 c.in_ok-second_text.second_text single.1.0 x2.2 x2.3 (x2.1 q style at1)
-    (Steps.single_goes style (seen_word c.third-item.result) _ (c.in_ok-first_text.first_text ∷ c.in_ok-second_text.second_text ∷ []) x3.0 c.in_ok-third_text.third_text single.1.1.0 x3.2 x3.3 (x3.1 q style at2)
-    (Steps.single_goes style (seen_word c.fourth-item.result) _ (c.in_ok-first_text.first_text ∷ c.in_ok-second_text.second_text ∷ c.in_ok-third_text.third_text ∷ []) x4.0 c.in_ok-fourth_text.fourth_text single.1.1.1.0 x4.2 x4.3 (x4.1 q style at3)
-    (h q style at4)))))) c.call_texts.ensures.runs
-
-pub words::call_four-returns-clause-here : goal.words::call_four-returns-clause-here
-words::call_four-returns-clause-here g t c = here_then c.call_texts.result c.args.tree.now c.eval_word-4.new.tree c.call_texts.new.tree c.args.place (here-trans c.args.tree.now c.eval_word-3.new.tree c.eval_word-4.new.tree c.args.place (here-trans c.args.tree.now c.eval_word-2.new.tree c.eval_word-3.new.tree c.args.place (here-trans c.args.tree.now c.eval_word.new.tree c.eval_word-2.new.tree c.args.place (here_text c.eval_word.result c.in_ok-first_text.first_text c.args.tree.now c.eval_word.new.tree c.args.place c.in_ok-first_text.ensures.text c.eval_word.ensures.here) (here_text c.eval_word-2.result c.in_ok-second_text.second_text c.eval_word.new.tree c.eval_word-2.new.tree c.args.place c.in_ok-second_text.ensures.text c.eval_word-2.ensures.here)) (here_text c.eval_word-3.result c.in_ok-third_text.third_text c.eval_word-2.new.tree c.eval_word-3.new.tree c.args.place c.in_ok-third_text.ensures.text c.eval_word-3.ensures.here)) (here_text c.eval_word-4.result c.in_ok-fourth_text.fourth_text c.eval_word-3.new.tree c.eval_word-4.new.tree c.args.place c.in_ok-fourth_text.ensures.text c.eval_word-4.ensures.here)) c.call_texts.ensures.here
-
-pub words::call_four-returns-clause-keeps : goal.words::call_four-returns-clause-keeps
-words::call_four-returns-clause-keeps g t c = keeps-trans (keeps-trans (keeps-trans (keeps-trans c.eval_word.ensures.keeps c.eval_word-2.ensures.keeps) c.eval_word-3.ensures.keeps) c.eval_word-4.ensures.keeps) c.call_texts.ensures.keeps
-
--- words of any kind
-
-pub words::call_general-call_two-requires : goal.words::call_general-call_two-requires
-words::call_general-call_two-requires g t c κs within = (search rules, (search rules, (c.requires.running, c.are_single.ensures c.if-not-are_single.false)))
-
-pub words::call_general-call_three-requires : goal.words::call_general-call_three-requires
-words::call_general-call_three-requires g t c κs within = (search rules, (search rules, (c.requires.running, c.are_single.ensures c.if-not-are_single.false)))
-
-pub words::call_general-call_four-requires : goal.words::call_general-call_four-requires
-words::call_general-call_four-requires g t c κs within = (search rules, (search rules, (c.requires.running, c.are_single.ensures c.if-not-are_single.false)))
+pub words::call_general-returns-clause-keeps : goal.words::call_general-returns-clause-keeps
+words::call_general-returns-clause-keeps g t c = keeps-trans c.words.invariant.keeps c.call_texts.ensures.keeps
 
 -- a command
 

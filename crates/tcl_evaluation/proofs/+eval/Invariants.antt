@@ -70,20 +70,14 @@ decreases-words::call_texts g l = 32032 * g.O.Outside.entries_left l.outside.now
 abbrev pub decreases-words::call_literals : goal.decreases-words::call_literals
 decreases-words::call_literals g l = 32032 * g.O.Outside.entries_left l.outside.now + 32 * room (tree_of l.tree.now) + 14
 
-abbrev pub decreases-words::call_many : goal.decreases-words::call_many
-decreases-words::call_many g l = 32032 * g.O.Outside.entries_left l.outside.now + 32 * room (tree_of l.tree.now) + 14
-
-abbrev pub decreases-words::call_two : goal.decreases-words::call_two
-decreases-words::call_two g l = 32032 * g.O.Outside.entries_left l.outside.now + 32 * room (tree_of l.tree.now) + 15
-
-abbrev pub decreases-words::call_three : goal.decreases-words::call_three
-decreases-words::call_three g l = 32032 * g.O.Outside.entries_left l.outside.now + 32 * room (tree_of l.tree.now) + 15
-
-abbrev pub decreases-words::call_four : goal.decreases-words::call_four
-decreases-words::call_four g l = 32032 * g.O.Outside.entries_left l.outside.now + 32 * room (tree_of l.tree.now) + 15
+abbrev pub decreases-at_hand::call_known : goal.decreases-at_hand::call_known
+decreases-at_hand::call_known g l = 32032 * g.O.Outside.entries_left l.outside.now + 32 * room (tree_of l.tree.now) + 11
 
 abbrev pub decreases-at_hand::call_named : goal.decreases-at_hand::call_named
 decreases-at_hand::call_named g l = 32032 * g.O.Outside.entries_left l.outside.now + 32 * room (tree_of l.tree.now) + 12
+
+abbrev pub decreases-at_hand::call_known_on_hand : goal.decreases-at_hand::call_known_on_hand
+decreases-at_hand::call_known_on_hand g l = 32032 * g.O.Outside.entries_left l.outside.now + 32 * room (tree_of l.tree.now) + 12
 
 abbrev pub decreases-at_hand::call_on_hand : goal.decreases-at_hand::call_on_hand
 decreases-at_hand::call_on_hand g l = 32032 * g.O.Outside.entries_left l.outside.now + 32 * room (tree_of l.tree.now) + 13
@@ -150,8 +144,8 @@ invariant-evaluation::eval_commands-commands g l = record {
   keeps : Keeps g.O.Outside.entries_left l.fn.tree l.tree l.fn.outside l.outside;
 }
 
-abbrev pub invariant-words::call_many-words : goal.invariant-words::call_many-words
-invariant-words::call_many-words g l = record {
+abbrev pub invariant-words::call_general-words : goal.invariant-words::call_general-words
+invariant-words::call_general-words g l = record {
   leads : (p : Path) (style : Integers) → IsAt l.fn.tree l.place p style →
       Leads (ways g.O.Outside.goes g.O.Outside.loses) style (tree_of l.fn.tree) l.fn.outside p (words (map seen_word l.fn.words) []) (tree_of l.tree) l.outside (words (map seen_word (drop l.word-index l.words)) l.texts.items);
   here : IsHere l.fn.tree l.tree l.place;

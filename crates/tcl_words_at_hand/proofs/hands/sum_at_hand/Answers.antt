@@ -4,7 +4,6 @@ use Rattle.std.specs.Fmt.{signed_decimal}
 use Rattle.tcl_expr.specs.declared.tree.ExprTree.{ExprTree}
 use Rattle.tcl_number_expressions.specs.AtHand.{IsNumberAtHand}
 use Rattle.tcl_interpreter.specs.declared.builtin.Builtin.{Builtin}
-use Rattle.tcl_interpreter.specs.declared.command.Command.{Command}
 use Rattle.tcl_interpreter.specs.declared.command.Command.TheVariants as command
 use Rattle.tcl_language.specs.Instructions.{fits}
 use Rattle.tcl_language.specs.Words.{concat}
@@ -34,7 +33,7 @@ returns-clause-at_hand c = λ p n names there.
       argument = argument;
       is = λ i. record { commands = commands i; fault = fault i };
       within = subst AllWithin texts c.words.ensures.within;
-      named = subst (λ (b : Builtin). IsNamed n word (command.Builtin b)) c.in-Expr.is (subst (λ (x : Command). IsNamed n word x) c.in-Builtin.is (c.in_ok-command.ensures p n names there));
+      named = subst (λ (b : Builtin). IsNamed n word (command.Builtin b)) c.in-Expr.is (c.in_ok-builtin_named.ensures p n names there);
       short = ap (λ (ts : List (List ℕ)). fits (concat ts)) (sym alone) ∙ c.in-Ok.ensures.whole.1;
       kept = c.in-Ok-read_expression.kept.value;
       is_kept = subst (λ (x : List ℕ). IsKept c.args.tree.now.integers x c.in-Ok-read_expression.kept.value) text (subst (λ s. IsKept s c.in-Ok.text c.in-Ok-read_expression.kept.value) c.integers-style.ensures c.in-Ok-read_expression.ensures.read);
