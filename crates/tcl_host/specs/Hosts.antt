@@ -1,6 +1,7 @@
 -- What every host keeps to.
 use Rattle.std.specs.Prelude.{◌≡◌, ℕ, ◌<◌, ◌≤◌, ◌^◌, ◌-◌, ◌⊎◌, IsTrue, List, Option, Some, None}
-use Rattle.std.specs.Prelude.{Result, Ok, Err}
+use Rattle.std.specs.Prelude.{Result, Ok, Err, IsErr}
+use Rattle.std.specs.declared.alloc.AllocError.{AllocError}
 use Rattle.tcl_host.specs.declared.request.Request.{Request}
 use Rattle.tcl_host.specs.declared.reply.HostRefusal.TheVariants.{DeviceFault}
 use Rattle.tcl_host.specs.declared.reply.HostReply.{HostReply}
@@ -37,3 +38,9 @@ line_reply None = End
 -- that it was done
 abbrev pub done_reply : Unit {0} → HostReply
 done_reply _ = Done
+
+-- the reply that an answer is; want of memory is none
+abbrev pub IsReplyOf : Result HostReply HostError → Result HostReply AllocError → Type 0
+IsReplyOf (Ok reply) result = result ≡ Ok reply
+IsReplyOf (Err (Failed.Refused why)) result = result ≡ Ok (Refused why)
+IsReplyOf (Err Failed.Memory) result = IsErr result

@@ -1,6 +1,6 @@
 //! The interface to the files and channels of the host.
 ghost use Rattle.std.specs.Prelude.{◌≡◌, ℕ, OnErr, IfOk};
-ghost use Rattle.tcl_host.specs.Hosts.{IsLawful, Replied, line_reply, done_reply};
+ghost use Rattle.tcl_host.specs.Hosts.{IsLawful, IsReplyOf, Replied, line_reply, done_reply};
 ghost use Rattle.tcl_host.specs.declared.request.Request.{Request};
 ghost use Rattle.tcl_host.specs.declared.reply.HostReply.{HostReply};
 
@@ -86,6 +86,30 @@ pub trait Host {
         step old request reply new → IsLawful (failures old) (failures new) request reply };
 }
 
+/// The reply that an answer is.
+///
+/// # Errors
+/// Want of memory.
+fn reply_of(answered: Result<HostReply, HostError>) -> Result<HostReply, AllocError>
+    ensures { IsReplyOf answered result }
+{
+    match answered {
+        Ok(reply) => Ok(reply),
+        Err(HostError::Refused(why)) => Ok(HostReply::Refused(why)),
+        Err(HostError::Memory) => Err(AllocError),
+    }
+}
+
+/// The reply that a line is, or the end.
+fn line_reply(line: Option<Bytes>) -> HostReply
+    ensures { result ≡ line_reply line }
+{
+    match line {
+        Some(line) => HostReply::Line(line),
+        None => HostReply::End,
+    }
+}
+
 /// Makes a request of a host, and gives its reply.
 ///
 /// # Errors
@@ -96,27 +120,31 @@ pub fn ask<H: Host>(host: &mut H, alloc: Global, request: &Request) -> Result<Ho
         (λ reply. IsLawful (H.failures host.old) (H.failures host.new) request.now reply) }
     ensures unchanged { OnErr result (host.new ≡ host.old) }
 {
-    let answered = match request {
-        Request::Open(name, mode) => host
-            .open(alloc, name.as_str(), *mode)
-            .map(HostReply::Opened),
-        Request::ReadLine(channel) => host
-            .read_line(alloc, channel.as_str())
-            .map(|line| match line {
-                Some(line) => HostReply::Line(line),
-                None => HostReply::End
-            }),
-        Request::ReadAll(channel) => host.read_all(alloc, channel.as_str()).map(HostReply::Rest),
-        Request::Write(channel, text) => host
-            .write(channel.as_str(), text.as_str())
-            .map(|()| HostReply::Done),
-        Request::Flush(channel) => host.flush(channel.as_str()).map(|()| HostReply::Done),
-        Request::Close(channel) => host.close(channel.as_str()).map(|()| HostReply::Done),
-        Request::Eof(channel) => host.eof(channel.as_str()).map(HostReply::AtEnd),
-    };
-    match answered {
-        Ok(reply) => Ok(reply),
-        Err(HostError::Refused(why)) => Ok(HostReply::Refused(why)),
-        Err(HostError::Memory) => Err(AllocError),
+    match request {
+        Request::Open(name, mode) => {
+            reply_of(
+                host.open(alloc, name.as_str(), *mode)
+                    .map(HostReply::Opened),
+            )
+        }
+        Request::ReadLine(channel) => {
+            reply_of(host.read_line(alloc, channel.as_str()).map(line_reply))
+        }
+        Request::ReadAll(channel) => {
+            reply_of(host.read_all(alloc, channel.as_str()).map(HostReply::Rest))
+        }
+        Request::Write(channel, text) => {
+            reply_of(
+                host.write(channel.as_str(), text.as_str())
+                    .map(|()| HostReply::Done),
+            )
+        }
+        Request::Flush(channel) => {
+            reply_of(host.flush(channel.as_str()).map(|()| HostReply::Done))
+        }
+        Request::Close(channel) => {
+            reply_of(host.close(channel.as_str()).map(|()| HostReply::Done))
+        }
+        Request::Eof(channel) => { reply_of(host.eof(channel.as_str()).map(HostReply::AtEnd)) }
     }
 }

@@ -218,6 +218,7 @@ fn two_at_hand(
 }
 
 /// What these one to four words stand for, where each of them is at hand, and at most one is a sum.
+#[inline(never)]
 pub fn words_at_hand(
     tree: &Tree,
     alloc: Global,

@@ -51,6 +51,19 @@ fn new_channel(stream: Stream) -> Channel
     }
 }
 
+/// Puts a standard channel to the others.
+fn add_standard(
+    alloc: Global,
+    channels: &mut Channels,
+    name: &str,
+    stream: Stream,
+) -> Result<(), AllocError>
+    ensures { OnOk result (channels.new ≡ map.insert channels.old name.now (new_channel stream)) }
+{
+    let key = String::from_str(alloc, name)?;
+    channels.insert(key, new_channel(stream))
+}
+
 /// The standard channels.
 ///
 /// # Errors
@@ -59,18 +72,9 @@ fn standard_channels(alloc: Global) -> Result<Channels, AllocError>
     ensures { IfOk result (λ made. made ≡ standard_channels) }
 {
     let mut channels = Channels::new(alloc);
-    channels.insert(
-        String::from_str(alloc, "stdin")?,
-        new_channel(Stream::Input),
-    )?;
-    channels.insert(
-        String::from_str(alloc, "stdout")?,
-        new_channel(Stream::Output),
-    )?;
-    channels.insert(
-        String::from_str(alloc, "stderr")?,
-        new_channel(Stream::Errors),
-    )?;
+    add_standard(alloc, &mut channels, "stdin", Stream::Input)?;
+    add_standard(alloc, &mut channels, "stdout", Stream::Output)?;
+    add_standard(alloc, &mut channels, "stderr", Stream::Errors)?;
     Ok(channels)
 }
 
