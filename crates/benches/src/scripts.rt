@@ -1,5 +1,5 @@
-//! The times of the scripts of a file of `data/`. Each line has a name, how often the script does
-//! its work (in a small run and in a full one), and the script, in which `$count` is that number.
+//! The times of the scripts of a file of rows. Each line has a name, how often the script does its
+//! work (in a small run and in a full one), and the script, in which `$count` is that number.
 use crate::measuring::took;
 use crate::running::{Size, result_of, run};
 use std::alloc::{AllocError, Global};
