@@ -11,7 +11,7 @@ pub use Rattle.tcl_functions.specs.Calls
 pub use Rattle.tcl_functions.specs.Serving
 pub use Rattle.tcl_host.specs.Hosts
 pub use Rattle.tcl_open_moves.specs.OpenMoves
-pub use Rattle.tcl_open_watching.specs.OpenWatched
+pub use Rattle.tcl_replay.specs.OpenWatched
 pub use Rattle.tcl_player.specs.Moves
 pub use Rattle.tcl_reactions.specs.Moving
 pub use Rattle.tcl_record_texts.specs.Lines

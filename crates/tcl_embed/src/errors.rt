@@ -3,7 +3,7 @@ use std::alloc::AllocError;
 use std::io;
 use tcl_eval::running::Refused;
 use tcl_host::reply::HostError;
-use tcl_open_watching::watching::OpenUnwatched;
+use tcl_replay::open_watching::OpenUnwatched;
 use tcl_replay::replaying::Unplayed;
 use tcl_replay::watching::Unwatched;
 use tcl_text::boolean::BooleanFault;

@@ -9,11 +9,11 @@ pub use tcl_replay::watching::Unwatched;
 /// record until then.
 pub use tcl_replay::watching::Deletion;
 /// The same over any outside, as `evaluation::open_run`; the outside is given back.
-pub use tcl_open_watching::watching::open_watched;
+pub use tcl_replay::open_watching::open_watched;
 /// Why there is no record of an open evaluation (122, 401 to 404, 411).
-pub use tcl_open_watching::watching::OpenUnwatched;
+pub use tcl_replay::open_watching::OpenUnwatched;
 /// What there is of an open evaluation in which the watched interpreter was deleted.
-pub use tcl_open_watching::watching::OpenDeletion;
+pub use tcl_replay::open_watching::OpenDeletion;
 /// What crossed the boundary of the watched interpreter, in order.
 pub use tcl_recorder::record::Record;
 /// One crossing: an entry that comes in, its end, a call that goes out, or the answer to it.

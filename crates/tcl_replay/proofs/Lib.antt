@@ -10,3 +10,7 @@ mod Savable
 mod Serving
 mod Depths
 mod Series
+mod OpenAnswers
+mod OpenEntered
+mod OpenGivenUp
+mod OpenRecorded

@@ -3,3 +3,4 @@ pub mod Watched
 pub mod Worlds
 pub mod Series
 pub mod Replaying
+pub mod OpenWatched

@@ -2,6 +2,7 @@
 #![tactic(auto)]
 
 pub mod laws;
+pub mod open_watching;
 pub mod replaying;
 pub mod saving;
 pub mod watching;

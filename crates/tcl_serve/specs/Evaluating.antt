@@ -22,9 +22,9 @@ use Rattle.tcl_host.specs.MemoryHost.{respond}
 use Rattle.tcl_host.specs.declared.memory.MemoryHost.{MemoryHost}
 use Rattle.tcl_host.specs.declared.reply.HostReply.{HostReply}
 use Rattle.tcl_host.specs.declared.request.Request.{Request}
-use Rattle.tcl_open_watching.specs.OpenWatched.{IfDeleted, IfEnds, IsOpenDeletion, IsOpenRecord}
-use Rattle.tcl_open_watching.specs.declared.watching.OpenUnwatched.{OpenUnwatched}
-use Rattle.tcl_open_watching.specs.declared.watching.OpenUnwatched.TheVariants as unwatched
+use Rattle.tcl_replay.specs.OpenWatched.{IfDeleted, IfEnds, IsOpenDeletion, IsOpenRecord}
+use Rattle.tcl_replay.specs.declared.open_watching.OpenUnwatched.{OpenUnwatched}
+use Rattle.tcl_replay.specs.declared.open_watching.OpenUnwatched.TheVariants as unwatched
 use Rattle.tcl_protocol.specs.Messages.{Evaluation, steps}
 use Rattle.tcl_protocol.specs.declared.answers.Answer.{Answer}
 use Rattle.tcl_protocol.specs.declared.answers.Answer.TheVariants as answer

@@ -18,7 +18,7 @@ use tcl_eval::running::{End, OpenEnd, Refused, open_run};
 use tcl_flow::completion::Completion;
 use tcl_functions::serving::WithFunctions;
 use tcl_host::memory::MemoryHost;
-use tcl_open_watching::watching::{OpenUnwatched, open_watched};
+use tcl_replay::open_watching::{OpenUnwatched, open_watched};
 use tcl_protocol::answers::{Answer, Ended, Watched};
 use tcl_protocol::messages::{Evaluate, STEPS, Watch};
 use tcl_protocol::refusals::Refusal;

@@ -6,9 +6,9 @@ use Rattle.tcl_eval.specs.Running.{IsOpenRun, root_count}
 use Rattle.tcl_eval.specs.declared.running.OpenEnd.{OpenEnd}
 use Rattle.tcl_eval.specs.declared.running.Refused.{Refused}
 use Rattle.tcl_eval.specs.declared.running.Refused.TheVariants as refused
-use Rattle.tcl_open_watching.specs.OpenWatched.{IfEnds, IfRefused, IsOpenRecord}
-use Rattle.tcl_open_watching.specs.declared.watching.OpenUnwatched.{OpenUnwatched}
-use Rattle.tcl_open_watching.specs.declared.watching.OpenUnwatched.TheVariants as unwatched
+use Rattle.tcl_replay.specs.OpenWatched.{IfEnds, IfRefused, IsOpenRecord}
+use Rattle.tcl_replay.specs.declared.open_watching.OpenUnwatched.{OpenUnwatched}
+use Rattle.tcl_replay.specs.declared.open_watching.OpenUnwatched.TheVariants as unwatched
 use Rattle.tcl_recorder.specs.Records.{RecordView}
 use Rattle.tcl_replay.specs.Watched.{Reacts, unwatchable}
 use Rattle.tcl_sessions.specs.Evaluations.{Ends, kept_of}

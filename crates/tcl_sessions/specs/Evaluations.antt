@@ -7,8 +7,8 @@ use Rattle.tcl_eval.specs.declared.running.End.{End}
 use Rattle.tcl_eval.specs.declared.running.OpenEnd.{OpenEnd}
 use Rattle.tcl_eval.specs.declared.running.OpenEnd.TheVariants.{Ran, CutOff}
 use Rattle.tcl_eval.specs.declared.running.Refused.{Refused}
-use Rattle.tcl_open_watching.specs.declared.watching.OpenUnwatched.{OpenUnwatched}
-use Rattle.tcl_open_watching.specs.declared.watching.OpenUnwatched.TheVariants as unwatched
+use Rattle.tcl_replay.specs.declared.open_watching.OpenUnwatched.{OpenUnwatched}
+use Rattle.tcl_replay.specs.declared.open_watching.OpenUnwatched.TheVariants as unwatched
 use Rattle.tcl_recorder.specs.Records.{RecordView}
 use Rattle.tcl_replay.specs.Watched.{Reacts, unwatchable}
 use Rattle.tcl_sessions.specs.Outcomes.{ShowsCall, ShowsEnd}

@@ -11,7 +11,7 @@ use crate::standing::Standing;
 use std::alloc::{AllocError, Global};
 use std::mem::replace;
 use tcl_eval::running::{OpenEnd, open_run};
-use tcl_open_watching::watching::{OpenUnwatched, open_watched};
+use tcl_replay::open_watching::{OpenUnwatched, open_watched};
 use tcl_recorder::record::Record;
 use tcl_text::text::Text;
 use tcl_tree::tree::Tree;

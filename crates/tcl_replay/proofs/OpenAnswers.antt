@@ -14,12 +14,12 @@ use Rattle.tcl_eval.specs.declared.running.OpenEnd.{OpenEnd}
 use Rattle.tcl_eval.specs.declared.running.Refused.{Refused}
 use Rattle.tcl_eval.specs.declared.running.Refused.TheVariants as refused
 use Rattle.tcl_isolation.specs.Visits.{visit}
-use Rattle.tcl_open_watching.proofs.Entered.{entry, plain}
-use Rattle.tcl_open_watching.proofs.GivenUp.{Lost, not_begun}
-use Rattle.tcl_open_watching.specs.OpenWatched.{IfDeleted, IfEnds, IfRefused, IsOpenDeletion, IsOpenRecord, IsOpenRecorded, Watches, answer_if, answer_of}
-use Rattle.tcl_open_watching.specs.declared.watching.OpenDeletion.{OpenDeletion}
-use Rattle.tcl_open_watching.specs.declared.watching.OpenUnwatched.{OpenUnwatched}
-use Rattle.tcl_open_watching.specs.declared.watching.OpenUnwatched.TheVariants as unwatched
+use Rattle.tcl_replay.proofs.OpenEntered.{entry, plain}
+use Rattle.tcl_replay.proofs.OpenGivenUp.{Lost, not_begun}
+use Rattle.tcl_replay.specs.OpenWatched.{IfDeleted, IfEnds, IfRefused, IsOpenDeletion, IsOpenRecord, IsOpenRecorded, Watches, answer_if, answer_of}
+use Rattle.tcl_replay.specs.declared.open_watching.OpenDeletion.{OpenDeletion}
+use Rattle.tcl_replay.specs.declared.open_watching.OpenUnwatched.{OpenUnwatched}
+use Rattle.tcl_replay.specs.declared.open_watching.OpenUnwatched.TheVariants as unwatched
 use Rattle.tcl_run.specs.Language.{language}
 use Rattle.tcl_recorder.proofs.BoundaryLaws.{boundary_drop}
 use Rattle.tcl_recorder.proofs.Fates as fates

@@ -1,11 +1,11 @@
 use Rattle.std.proofs.Common.{◌∙◌, refl, sym}
 use Rattle.tcl_eval.proofs.Starting.{at_none, counts_stay}
-use Rattle.tcl_open_watching.proofs.Answers.{deletions, follows, follows_drop, records, runs}
+use Rattle.tcl_replay.proofs.OpenAnswers.{deletions, follows, follows_drop, records, runs}
 use Rattle.tcl_replay.proofs.Before.{both_there}
-use Rattle.tcl_open_watching.specs.OpenWatched.{ReactsToDrop}
-use Rattle.tcl_open_watching.proofs.Recorded as laws
+use Rattle.tcl_replay.specs.OpenWatched.{ReactsToDrop}
+use Rattle.tcl_replay.proofs.OpenRecorded as laws
 use Rattle.tcl_replay.specs.Watched.{AsksTheHostNothing, CountStaysWithin, Reacts, ReactsSo, ReactsUntil, unwatchable}
-use Rattle.tcl_open_watching.proofs.watching.open_watched.Goals as goal
+use Rattle.tcl_replay.proofs.open_watching.open_watched.Goals as goal
 
 pub returns-clause-runs : goal.returns-clause-runs
 returns-clause-runs g c = runs g.O.Outside.goes g.O.Outside.loses c.args.tree.now c.args.outside c.args.path.now c.args.script.now c.args.limit c.args.watched.now c.watch.new.tree c.watch.result.0 c.watch.result.1 c.watch.ensures.watches

@@ -19,9 +19,9 @@ use Rattle.tcl_isolation.specs.Visits.{DroppedVisit, IsBelowTheTop, WatchedVisit
 use Rattle.tcl_run.specs.Language.{language}
 use Rattle.tcl_recorder.specs.Recording.{noted, recorded}
 use Rattle.tcl_recorder.specs.Records.{RecordView}
-use Rattle.tcl_open_watching.specs.declared.watching.OpenDeletion.{OpenDeletion}
-use Rattle.tcl_open_watching.specs.declared.watching.OpenUnwatched.{OpenUnwatched}
-use Rattle.tcl_open_watching.specs.declared.watching.OpenUnwatched.TheVariants as unwatched
+use Rattle.tcl_replay.specs.declared.open_watching.OpenDeletion.{OpenDeletion}
+use Rattle.tcl_replay.specs.declared.open_watching.OpenUnwatched.{OpenUnwatched}
+use Rattle.tcl_replay.specs.declared.open_watching.OpenUnwatched.TheVariants as unwatched
 use Rattle.tcl_replay.specs.Watched.{recorder_of}
 use Rattle.tcl_run.specs.Outsides.{Going}
 use Rattle.tcl_run.specs.Runs.{ways}

@@ -1,11 +1,11 @@
 use Rattle.std.proofs.Common.{◌+◌, subst, sym}
 use Rattle.std.specs.Prelude.{IfOk}
 use Rattle.tcl_eval.specs.Running.{IsOpenRun, root_count, unfit}
-use Rattle.tcl_open_watching.proofs.GivenUp.{Lost, if_unwatched, not_begun}
+use Rattle.tcl_replay.proofs.OpenGivenUp.{Lost, if_unwatched, not_begun}
 use Rattle.tcl_recorder.specs.Recording.{recorded}
 use Rattle.tcl_recorder.specs.declared.recorder.Recorder.{Recorder}
 use Rattle.tcl_eval.proofs.Starting.{counts_stay}
-use Rattle.tcl_open_watching.proofs.watching.run.Goals as goal
+use Rattle.tcl_replay.proofs.open_watching.run.Goals as goal
 
 pub returns-in-Ok-clause-runs : goal.returns-in-Ok-clause-runs
 returns-in-Ok-clause-runs g c =

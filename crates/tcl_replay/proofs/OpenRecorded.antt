@@ -18,7 +18,7 @@ use Rattle.tcl_isolation.specs.Visits.{IsBelowTheTop}
 use Rattle.tcl_language.specs.Safety.{plain}
 use Rattle.tcl_run.specs.Language.{language}
 use Rattle.tcl_replay.proofs.Below.{below_at, below_same}
-use Rattle.tcl_open_watching.specs.OpenWatched.{IsOpenDeletion, IsOpenRecorded, ReactsToDrop}
+use Rattle.tcl_replay.specs.OpenWatched.{IsOpenDeletion, IsOpenRecorded, ReactsToDrop}
 use Rattle.tcl_recorder.specs.Records.{RecordView}
 use Rattle.tcl_replay.specs.Watched.{AsksTheHostNothing, CountStaysWithin, Reacts, ReactsSo, ReactsUntil}
 use Rattle.tcl_run.specs.Outsides.{Going}

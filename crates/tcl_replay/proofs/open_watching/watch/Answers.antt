@@ -5,15 +5,15 @@ use Rattle.tcl_core.specs.Execution.{event}
 use Rattle.tcl_core.specs.Paths.{Path}
 use Rattle.tcl_core.specs.Trees.What.{In}
 use Rattle.tcl_eval.specs.Running.{IsOpenRun, root_count}
-use Rattle.tcl_open_watching.proofs.Answers.{as_whole, ends_so, run_so, wants, watches}
-use Rattle.tcl_open_watching.proofs.GivenUp.{Lost}
-use Rattle.tcl_open_watching.specs.OpenWatched.{IfEnds, Watches}
+use Rattle.tcl_replay.proofs.OpenAnswers.{as_whole, ends_so, run_so, wants, watches}
+use Rattle.tcl_replay.proofs.OpenGivenUp.{Lost}
+use Rattle.tcl_replay.specs.OpenWatched.{IfEnds, Watches}
 use Rattle.tcl_recorder.specs.Recording.{noted, recorded}
 use Rattle.tcl_recorder.specs.declared.recorder.Recorder.{Recorder}
 use Rattle.tcl_replay.specs.Watched.{recorder_of}
 use Rattle.tcl_tree.specs.TreeOf.{Marks, marks_of}
 use Rattle.tcl_eval.proofs.Starting.{counts_stay}
-use Rattle.tcl_open_watching.proofs.watching.watch.Goals as goal
+use Rattle.tcl_replay.proofs.open_watching.watch.Goals as goal
 
 pub returns-in-Err-clause-watches : goal.returns-in-Err-clause-watches
 returns-in-Err-clause-watches g c =

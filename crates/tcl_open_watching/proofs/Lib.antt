@@ -1,4 +1,0 @@
-mod Answers
-mod Entered
-mod GivenUp
-mod Recorded

@@ -1,4 +1,0 @@
-//! Evaluations that are watched over any outside.
-#![tactic(auto)]
-
-pub mod watching;
