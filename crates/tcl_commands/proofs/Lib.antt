@@ -20,3 +20,5 @@ pub mod Alterations
 pub mod ArrayEnds
 pub mod Otherwise
 pub mod SubcommandNames
+pub mod Statuses
+pub mod DictCalls

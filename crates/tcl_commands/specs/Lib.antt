@@ -11,3 +11,7 @@ pub mod Parameters
 pub mod Renaming
 pub mod Reaching
 pub mod Changed
+pub mod Changes
+pub mod Exiting
+pub mod Kinds
+pub mod Subcommands

@@ -20,7 +20,7 @@ use crate::sourcing::source;
 use crate::switching::switch;
 use crate::trying::try_script;
 use std::alloc::Global;
-use tcl_builtins::plain::call_plain;
+use tcl_commands::plain::call_plain;
 use tcl_calls::host_calls::HostCommand;
 use tcl_calls::lookup::{find_command, find_hidden};
 use tcl_calls::procedures::{enter, leave_frame, wrong_form};

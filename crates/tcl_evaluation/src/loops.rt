@@ -10,7 +10,7 @@ ghost use Rattle.tcl_text.specs.declared.integer.Integers.{Integers};
 
 use crate::evaluation::{eval_read, eval_value};
 use std::alloc::Global;
-use tcl_builtins::dicts;
+use tcl_commands::dicts;
 use tcl_calls::levels::{bring_back, script_level, set_aside};
 use tcl_calls::scripts::script_of;
 use tcl_calls::turns::goes_on;

@@ -1,12 +1,12 @@
 //! Calls of plain commands.
 ghost use Rattle.std.specs.Prelude.{◌≡◌, true};
-ghost use Rattle.tcl_builtins.specs.Kinds.{is_plain};
+ghost use Rattle.tcl_commands.specs.Kinds.{is_plain};
 ghost use Rattle.tcl_run.specs.Ends.{IfRan, OnCompletion};
 ghost use Rattle.tcl_run.specs.Runs.{IsHere, IsRunning, Keeps, ways};
 ghost use Rattle.tcl_words_at_hand.specs.Sums.{CallsBuiltin};
 
 use std::alloc::Global;
-use tcl_builtins::plain::call_plain;
+use tcl_commands::plain::call_plain;
 use tcl_run::interruption::Interruption;
 use tcl_run::outside::Outside;
 use tcl_run::steps::charge;

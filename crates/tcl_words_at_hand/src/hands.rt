@@ -1,6 +1,6 @@
 //! What is at hand: words, commands, and sums in brackets.
 ghost use Rattle.std.specs.Prelude.{◌≡◌, ◌∷◌, [], true, false, map, IfSome};
-ghost use Rattle.tcl_builtins.specs.Kinds.{is_plain};
+ghost use Rattle.tcl_commands.specs.Kinds.{is_plain};
 ghost use Rattle.tcl_language.specs.Instructions.{fits};
 ghost use Rattle.tcl_parser.specs.declared.script.Part.TheVariants.{Script};
 ghost use Rattle.std.specs.String.{string_bytes};

@@ -2,7 +2,7 @@
 ghost use Rattle.std.specs.Prelude.{◌≡◌, List};
 ghost use Rattle.tcl_core.specs.Paths.{Text as TextBytes};
 ghost use Rattle.tcl_language.specs.Data.{dict_subcommands, subcommand_in};
-ghost use Rattle.tcl_builtins.specs.Subcommands.{outcome_or, subcommand_of};
+ghost use Rattle.tcl_commands.specs.Subcommands.{outcome_or, subcommand_of};
 
 /// A subcommand of `dict` that is a function of its words.
 #[derive(Clone, Copy, Drop)]

@@ -11,8 +11,8 @@ use Rattle.tcl_text.specs.declared.integer.Integers.{Integers}
 use Rattle.tcl_tree.specs.declared.tree.Tree.{Tree as Table}
 use Rattle.tcl_tree.specs.declared.tree.Place.{Place as TablePlace}
 use Rattle.tcl_commands.proofs.Going.{acts_as}
-use Rattle.tcl_builtins.specs.Changes.{program_of, program_or}
-use Rattle.tcl_builtins.specs.declared.changes.Change.{Change}
+use Rattle.tcl_commands.specs.Changes.{program_of, program_or}
+use Rattle.tcl_commands.specs.declared.changes.Change.{Change}
 
 pub no_word : (args : List Text) → length args < 1 → args ≡ []
 no_word [] h = refl

@@ -7,10 +7,10 @@ use Rattle.tcl_dicts.specs.Dicts.{create_of, exists_of, get_of, keys_of, merge_o
 use Rattle.tcl_dicts.specs.Dicts.{replace_of, size_of, values_of}
 use Rattle.tcl_language.specs.Faults.{unknown_subcommand}
 use Rattle.tcl_words.specs.Outcomes.{Outcome}
-use Rattle.tcl_builtins.specs.declared.subcommand.Subcommand.{Subcommand}
-use Rattle.tcl_builtins.specs.declared.subcommand.Subcommand.TheVariants.{Create, Get, Exists, Keys}
-use Rattle.tcl_builtins.specs.declared.subcommand.Subcommand.TheVariants.{Values, Size, Merge}
-use Rattle.tcl_builtins.specs.declared.subcommand.Subcommand.TheVariants.{Replace, Remove}
+use Rattle.tcl_commands.specs.declared.subcommand.Subcommand.{Subcommand}
+use Rattle.tcl_commands.specs.declared.subcommand.Subcommand.TheVariants.{Create, Get, Exists, Keys}
+use Rattle.tcl_commands.specs.declared.subcommand.Subcommand.TheVariants.{Values, Size, Merge}
+use Rattle.tcl_commands.specs.declared.subcommand.Subcommand.TheVariants.{Replace, Remove}
 
 -- the subcommand that a word names
 abbrev pub subcommand_of : Text → Option Subcommand

@@ -7,12 +7,12 @@ ghost use Rattle.tcl_run.specs.Plain.{Acts};
 ghost use Rattle.tcl_run.specs.Runs.{IsLevel};
 ghost use Rattle.tcl_tree.specs.TreeOf.{Names};
 ghost use Rattle.tcl_words.specs.Outcomes.{Gives};
-ghost use Rattle.tcl_builtins.specs.Subcommands.{outcome_of};
+ghost use Rattle.tcl_commands.specs.Subcommands.{outcome_of};
 
 use crate::changes::{Change, make_change};
 use crate::subcommand::Subcommand;
 use std::alloc::Global;
-use tcl_commands::answers::answered;
+use crate::answers::answered;
 use tcl_dicts::building::{create, merge, remove, replace};
 use tcl_dicts::finding::{exists, get, size};
 use tcl_dicts::listing::{keys, values};

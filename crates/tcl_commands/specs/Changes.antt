@@ -6,9 +6,9 @@ use Rattle.tcl_core.specs.Paths.{Text}
 use Rattle.tcl_language.specs.Changes.{dict_append, dict_incr, dict_lappend, dict_set, dict_unset}
 use Rattle.tcl_language.specs.Instructions.{Program}
 use Rattle.tcl_text.specs.declared.integer.Integers.{Integers}
-use Rattle.tcl_builtins.specs.declared.changes.Change.{Change}
-use Rattle.tcl_builtins.specs.declared.changes.Change.TheVariants.{Set, Unset, Incr, Append}
-use Rattle.tcl_builtins.specs.declared.changes.Change.TheVariants.{Lappend}
+use Rattle.tcl_commands.specs.declared.changes.Change.{Change}
+use Rattle.tcl_commands.specs.declared.changes.Change.TheVariants.{Set, Unset, Incr, Append}
+use Rattle.tcl_commands.specs.declared.changes.Change.TheVariants.{Lappend}
 
 -- the change that a word names
 abbrev pub change_of : Text → Option Change

@@ -5,25 +5,25 @@ ghost use Rattle.tcl_language.specs.Table.{builtin as program_of};
 ghost use Rattle.tcl_run.specs.Plain.{Acts};
 ghost use Rattle.tcl_run.specs.Runs.{IsLevel};
 ghost use Rattle.tcl_tree.specs.TreeOf.{Names};
-ghost use Rattle.tcl_builtins.specs.Kinds.{is_effectful, is_plain};
+ghost use Rattle.tcl_commands.specs.Kinds.{is_effectful, is_plain};
 
 use crate::exits::exit;
 use std::alloc::Global;
-use tcl_commands::arrays::array;
-use tcl_commands::assigning::lassign;
-use tcl_commands::changing::lset;
-use tcl_commands::definitions::proc;
-use tcl_commands::ends::{breaks, continues, error, returns, throw};
-use tcl_commands::growing::{append, lappend};
-use tcl_commands::inspection::info;
-use tcl_commands::links::{global, upvar};
-use tcl_commands::lists::{
+use crate::arrays::array;
+use crate::assigning::lassign;
+use crate::changing::lset;
+use crate::definitions::proc;
+use crate::ends::{breaks, continues, error, returns, throw};
+use crate::growing::{append, lappend};
+use crate::inspection::info;
+use crate::links::{global, upvar};
+use crate::lists::{
     concat, join, lindex, linsert, list, llength, lrange, lrepeat, lreplace, lreverse, lsearch,
     lsort, split,
 };
-use tcl_commands::texts::{format, string};
-use tcl_commands::unsetting::unset;
-use tcl_commands::variables::{incr, set};
+use crate::texts::{format, string};
+use crate::unsetting::unset;
+use crate::variables::{incr, set};
 use tcl_run::interruption::Interruption;
 use tcl_tree::builtin::Builtin;
 use tcl_tree::tree::{Place, Tree};

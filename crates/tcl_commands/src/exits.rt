@@ -5,11 +5,11 @@ ghost use Rattle.tcl_language.specs.Hosting as hosting;
 ghost use Rattle.tcl_run.specs.Ends.{Interrupts, failing};
 ghost use Rattle.tcl_run.specs.Plain.{Acts};
 ghost use Rattle.tcl_run.specs.Runs.{IsLevel};
-ghost use Rattle.tcl_builtins.specs.Exiting.{IsExit};
+ghost use Rattle.tcl_commands.specs.Exiting.{IsExit};
 ghost use Rattle.tcl_text.specs.Messages as messages;
 
 use std::alloc::Global;
-use tcl_commands::steps::word_integer;
+use crate::steps::word_integer;
 use tcl_run::failure::{plain_failure, wrong_args};
 use tcl_run::interruption::Interruption;
 use tcl_text::messages::BAD_STATUS;

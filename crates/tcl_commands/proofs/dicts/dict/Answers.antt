@@ -1,8 +1,8 @@
 use Rattle.std.proofs.Common.{◌≡◌, ℕ, List, ◌∷◌, drop, length, sym, ap, ◌∙◌}
 use Rattle.std.specs.Prelude.{take, ◌-◌}
 use Rattle.tcl_commands.proofs.Linking.{one_front}
-use Rattle.tcl_builtins.proofs.DictCalls.{change_acts, no_word, none_acts, words_acts}
-use Rattle.tcl_builtins.proofs.dicts.dict.Goals as goal
+use Rattle.tcl_commands.proofs.DictCalls.{change_acts, no_word, none_acts, words_acts}
+use Rattle.tcl_commands.proofs.dicts.dict.Goals as goal
 
 pub returns-in-empty-clause-acts : goal.returns-in-empty-clause-acts
 returns-in-empty-clause-acts c =

@@ -1,7 +1,7 @@
 use Rattle.std.proofs.lemmas.Result.{err_from_is_err_and}
 use Rattle.tcl_text.proofs.Items.{one_item}
-use Rattle.tcl_builtins.proofs.Statuses.{exit_fails}
-use Rattle.tcl_builtins.proofs.exits.exit.Goals as goal
+use Rattle.tcl_commands.proofs.Statuses.{exit_fails}
+use Rattle.tcl_commands.proofs.exits.exit.Goals as goal
 
 pub returns-in_err-status-in-len1-clause-acts : goal.returns-in_err-status-in-len1-clause-acts
 returns-in_err-status-in-len1-clause-acts c =

@@ -1,4 +1,0 @@
-pub mod Changes
-pub mod Exiting
-pub mod Kinds
-pub mod Subcommands
