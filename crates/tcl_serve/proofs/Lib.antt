@@ -1,2 +1,3 @@
 mod KeptLemmas
 mod SessionLemmas
+mod Turning

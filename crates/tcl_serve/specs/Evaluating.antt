@@ -2,8 +2,8 @@
 use Rattle.std.specs.Option.{unwrap_or}
 use Rattle.std.specs.Prelude.{◌≡◌, ◌⊎◌, ℕ, ◌+◌, Bool, true, false, List, [], Option, Some, None}
 use Rattle.std.specs.Prelude.{Result, Ok, Err, IfErr, IfNone, IfOk, IfSome, IsErrOf}
-use Rattle.tcl_client.specs.Clients.{IsOver, Serves}
-use Rattle.tcl_client.specs.Views.{ClientView}
+use Rattle.tcl_serve.specs.Clients.{IsOver, Serves}
+use Rattle.tcl_serve.specs.Views.{ClientView}
 use Rattle.tcl_core.specs.Endings.{Kind}
 use Rattle.tcl_core.specs.Endings.Kind.{Full, Gone}
 use Rattle.tcl_core.specs.Endings.Meter.{Count, Depth}

@@ -6,3 +6,7 @@ pub mod Numbering
 pub mod Served
 pub mod Serving
 pub mod Sessions
+pub mod Clients
+pub mod Entering
+pub mod Opened
+pub mod Views

@@ -1,6 +1,6 @@
 -- What is asked of a served tree while nothing is evaluated in it.
 use Rattle.std.specs.Prelude.{◌≡◌, [], List, Result, Ok, Err, MatchOption, Some}
-use Rattle.tcl_client.specs.Entering.{AtChild, client_way}
+use Rattle.tcl_serve.specs.Entering.{AtChild, client_way}
 use Rattle.tcl_core.specs.Paths.{Path, Text}
 use Rattle.tcl_core.specs.Trees.{effect}
 use Rattle.tcl_core.specs.Trees.What.{DepthLimited, Limited}

@@ -1,7 +1,7 @@
 -- A session: which lines are read and written, and what becomes of what it keeps.
 use Rattle.std.specs.Prelude.{◌≡◌, ◌⊎◌, ◌+◌, ℕ, List, Option, Some, None, Result}
-use Rattle.tcl_client.specs.Clients.{IsQuiet}
-use Rattle.tcl_client.specs.Views.{ClientView}
+use Rattle.tcl_serve.specs.Clients.{IsQuiet}
+use Rattle.tcl_serve.specs.Views.{ClientView}
 use Rattle.tcl_protocol.specs.Lines.{Traffic}
 use Rattle.tcl_protocol.specs.Messages.{Asks}
 use Rattle.tcl_protocol.specs.Talking.{Finishes, Rejects, Replies, Understands}

@@ -1,7 +1,7 @@
 -- What messages do to what a session keeps.
 use Rattle.std.specs.Prelude.{◌≡◌, ◌⊎◌, ◌↔◌, ℕ, Bool, false, Some, None, Result}
 use Rattle.std.specs.Prelude.{Ok, Err, IsSome, IsTrue}
-use Rattle.tcl_client.specs.Views.{ClientView}
+use Rattle.tcl_serve.specs.Views.{ClientView}
 use Rattle.tcl_core.specs.Paths.{Path}
 use Rattle.tcl_protocol.specs.Messages as ask
 use Rattle.tcl_protocol.specs.Messages.{Asks, Evaluation}

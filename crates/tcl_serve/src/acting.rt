@@ -4,7 +4,7 @@ ghost use Rattle.tcl_core.specs.Trees.{effect};
 ghost use Rattle.tcl_core.specs.Trees.What.{DepthLimited, Limited};
 ghost use Rattle.tcl_interpreter.specs.Commands.{way_between};
 ghost use Rattle.tcl_interpreter.specs.declared.command.Command.TheVariants as command;
-ghost use Rattle.tcl_client.specs.Entering.{AtChild, client_way};
+ghost use Rattle.tcl_serve.specs.Entering.{AtChild, client_way};
 ghost use Rattle.tcl_protocol.specs.declared.answers.Answer.TheVariants.{Done};
 ghost use Rattle.tcl_serve.specs.Acting.{IsRefused, IsStanding, nobody};
 ghost use Rattle.tcl_tree.specs.Changes.{Drops, Makes, RefusesDepthLimit, RefusesDrop};
@@ -14,7 +14,7 @@ ghost use Rattle.tcl_tree.specs.TreeOf.{marks_of, tree_of};
 
 use indexmap::map::Keys;
 use std::alloc::{AllocError, Global};
-use tcl_client::entering::values_of;
+use crate::entering::values_of;
 use tcl_protocol::answers::{Answer, Standing};
 use tcl_protocol::messages::{Alias, AliasToClient, ClearAlias, Create, LimitCount, LimitDepth};
 use tcl_protocol::refusals::Refusal;

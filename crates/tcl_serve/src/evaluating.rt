@@ -1,6 +1,6 @@
 //! Evaluations, with the client outside of the tree.
 ghost use Rattle.std.specs.Prelude.{◌≡◌, IfOk, MatchResult};
-ghost use Rattle.tcl_client.specs.Clients.{IsOver};
+ghost use Rattle.tcl_serve.specs.Clients.{IsOver};
 ghost use Rattle.tcl_eval.specs.Running.{open_ending};
 ghost use Rattle.tcl_protocol.specs.Messages.{evaluation_of};
 ghost use Rattle.tcl_protocol.specs.declared.answers.Ended.TheVariants.{Completed};
@@ -13,7 +13,7 @@ use crate::served::ServedTree;
 use std::alloc::{AllocError, Global};
 use std::io::{BufRead, Write};
 use std::mem::replace;
-use tcl_client::client::Client;
+use crate::client::Client;
 use tcl_eval::running::{End, OpenEnd, Refused, open_run};
 use tcl_flow::completion::Completion;
 use tcl_functions::serving::WithFunctions;

@@ -10,7 +10,7 @@ use crate::numbered::Numbered;
 use crate::served::ServedTree;
 use std::alloc::Global;
 use std::io::{BufRead, Write};
-use tcl_client::client::Client;
+use crate::client::Client;
 use tcl_protocol::answers::Answer;
 use tcl_protocol::fields::Field;
 use tcl_protocol::messages::{Ask, Compare, Evaluate, Interpreter, Message, Replay, Watch};

@@ -1,5 +1,0 @@
-use Rattle.tcl_client.specs.Clients.{Waits}
-use Rattle.tcl_client.proofs.client.Client.serve.Given as goal
-
-abbrev pub invariant-lines : goal.invariant-lines
-invariant-lines g l = Waits l.initial.self l.self

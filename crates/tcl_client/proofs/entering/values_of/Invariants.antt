@@ -1,5 +1,0 @@
-use Rattle.std.proofs.Common.{◌≡◌, take}
-use Rattle.tcl_client.proofs.entering.values_of.Given as goal
-
-abbrev pub invariant-texts : goal.invariant-texts
-invariant-texts l = l.values.items ≡ take l.text-index l.texts

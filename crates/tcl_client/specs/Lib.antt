@@ -1,4 +1,0 @@
-pub mod Clients
-pub mod Entering
-pub mod Opened
-pub mod Views

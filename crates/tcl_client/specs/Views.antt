@@ -1,8 +1,0 @@
--- The client as contracts see it.
-use Rattle.tcl_client.specs.declared.open.Talk.{Talk}
-use Rattle.tcl_protocol.specs.Lines.{Traffic}
-
--- what is read and written, and what is between the lines
-pub record ClientView : Type 0 where
-  pub lines : Traffic
-  pub talk : Talk
