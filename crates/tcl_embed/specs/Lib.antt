@@ -10,7 +10,6 @@ pub use Rattle.tcl_functions.specs.Aliases
 pub use Rattle.tcl_functions.specs.Calls
 pub use Rattle.tcl_functions.specs.Serving
 pub use Rattle.tcl_host.specs.Hosts
-pub use Rattle.tcl_open_moves.specs.OpenMoves
 pub use Rattle.tcl_replay.specs.OpenWatched
 pub use Rattle.tcl_player.specs.Moves
 pub use Rattle.tcl_reactions.specs.Moving
@@ -29,3 +28,4 @@ pub use Rattle.tcl_tree.specs.Naming
 pub use Rattle.tcl_tree.specs.TreeOf
 pub use Rattle.tcl_value.specs.Limits
 pub mod Ends
+pub mod OpenMoves

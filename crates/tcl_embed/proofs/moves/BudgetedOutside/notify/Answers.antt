@@ -1,7 +1,7 @@
 use Rattle.std.proofs.Common.{sym, ◌∙◌}
 use Rattle.std.proofs.lemmas.Result.{on_ok_weaker}
-use Rattle.tcl_open_moves.proofs.Moving.{notified_on, notified_over}
-use Rattle.tcl_open_moves.proofs.moves.BudgetedOutside.notify.Goals as goal
+use Rattle.tcl_embed.proofs.Moving.{notified_on, notified_over}
+use Rattle.tcl_embed.proofs.moves.BudgetedOutside.notify.Goals as goal
 
 pub returns-then-is_some-clause-told : goal.returns-then-is_some-clause-told
 returns-then-is_some-clause-told g c = notified_over g.O.Outside.goes g.O.Outside.hands_in c.args.tree.now c.args.self.now.outside c.args.self.now.left c.args.self.now.halt c.args.happening (sym c.is_some.ensures ∙ c.if-is_some.true)

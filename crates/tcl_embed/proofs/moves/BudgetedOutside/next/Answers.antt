@@ -2,10 +2,10 @@ use Rattle.std.proofs.Common.{sym, subst, ◌∙◌}
 use Rattle.tcl_run.specs.Entering.{whole_entry}
 use Rattle.tcl_run.specs.Outsides.{ComesNext}
 use Rattle.tcl_tree.specs.TreeOf.{tree_of}
-use Rattle.tcl_open_moves.specs.OpenMoves.{by_budget}
-use Rattle.tcl_open_moves.proofs.Moving.{comes_next}
+use Rattle.tcl_embed.specs.OpenMoves.{by_budget}
+use Rattle.tcl_embed.proofs.Moving.{comes_next}
 use Rattle.tcl_run.proofs.Losing.{lost_where}
-use Rattle.tcl_open_moves.proofs.moves.BudgetedOutside.next.Goals as goal
+use Rattle.tcl_embed.proofs.moves.BudgetedOutside.next.Goals as goal
 
 pub returns-clause-lost : goal.returns-clause-lost
 returns-clause-lost g c = lost_where g.O.Outside.loses c.next-turn.result c.args.self.now.outside c.next-turn.new.self c.next-turn.ensures.lost

@@ -1,10 +1,10 @@
 use Rattle.std.proofs.Common.{[]}
 use Rattle.tcl_tree.specs.TreeOf.{marks_of, tree_of}
 use Rattle.tcl_run.proofs.Steady.{steady-refl}
-use Rattle.tcl_open_moves.proofs.Moving.{bounded_so, counts_kept, counts_marked, denied_so, finished_so, given_up_so, moved_so}
+use Rattle.tcl_embed.proofs.Moving.{bounded_so, counts_kept, counts_marked, denied_so, finished_so, given_up_so, moved_so}
 use Rattle.tcl_eval.proofs.Starting.{at_none}
 use Rattle.tcl_eval.specs.Running.{unfit}
-use Rattle.tcl_open_moves.proofs.moves.open_moves.Goals as goal
+use Rattle.tcl_embed.proofs.moves.open_moves.Goals as goal
 
 pub returns-in-Ok-clause-moved : goal.returns-in-Ok-clause-moved
 returns-in-Ok-clause-moved g c =

@@ -51,15 +51,15 @@ use Rattle.tcl_tree.specs.Own.{Own}
 use Rattle.tcl_tree.specs.Gone.{Holds}
 use Rattle.tcl_tree.specs.TreeOf.{Names, key_of, marks_of, tree_of}
 use Rattle.tcl_tree.specs.declared.tree.Tree.{Tree as Table}
-use Rattle.tcl_open_moves.specs.OpenMoves.{ComesOf, FindsNobody, GivesUp, GivesUpIn, GivesUpOn, IsDenied, IsGivenUp, KeepsCounts, Serves, between, within, budgeted_of, by_budget, grants, hands, halt_at, halt_of, last_end, result_of}
-use Rattle.tcl_open_moves.proofs.Spending.{All, Denies, all_of, all_paid, counted_at_most, denied}
-use Rattle.tcl_open_moves.specs.declared.moves.Outcome.{Outcome}
-use Rattle.tcl_open_moves.specs.declared.moves.Outcome.TheVariants as outcome
+use Rattle.tcl_embed.specs.OpenMoves.{ComesOf, FindsNobody, GivesUp, GivesUpIn, GivesUpOn, IsDenied, IsGivenUp, KeepsCounts, Serves, between, within, budgeted_of, by_budget, grants, hands, halt_at, halt_of, last_end, result_of}
+use Rattle.tcl_embed.proofs.Spending.{All, Denies, all_of, all_paid, counted_at_most, denied}
+use Rattle.tcl_embed.specs.declared.moves.Outcome.{Outcome}
+use Rattle.tcl_embed.specs.declared.moves.Outcome.TheVariants as outcome
 use Rattle.tcl_eval.proofs.Starting.{some_way}
 use Rattle.tcl_eval.specs.Running.{root_count}
-use Rattle.tcl_open_moves.specs.declared.moves.Budgeted.{Budgeted}
-use Rattle.tcl_open_moves.specs.declared.moves.Halt.{Halt}
-use Rattle.tcl_open_moves.specs.declared.moves.Halt.TheVariants as halt
+use Rattle.tcl_embed.specs.declared.moves.Budgeted.{Budgeted}
+use Rattle.tcl_embed.specs.declared.moves.Halt.{Halt}
+use Rattle.tcl_embed.specs.declared.moves.Halt.TheVariants as halt
 
 none_of : (h : Option Halt) → is_some h ≡ false → h ≡ None
 none_of None e = refl

@@ -2,9 +2,9 @@ use Rattle.tcl_run.proofs.Steady.{stands}
 use Rattle.tcl_run.specs.Entering.{whole_entry}
 use Rattle.tcl_tree.proofs.CoreLemmas.{tree_there}
 use Rattle.tcl_tree.specs.TreeOf.{tree_of}
-use Rattle.tcl_open_moves.proofs.Moving.{gives_up_in, serves}
+use Rattle.tcl_embed.proofs.Moving.{gives_up_in, serves}
 use Rattle.tcl_eval.proofs.Starting.{at_any_err}
-use Rattle.tcl_open_moves.proofs.moves.live_in.Goals as goal
+use Rattle.tcl_embed.proofs.moves.live_in.Goals as goal
 
 pub returns-in_err-notify-clause-given_up : goal.returns-in_err-notify-clause-given_up
 returns-in_err-notify-clause-given_up g c =

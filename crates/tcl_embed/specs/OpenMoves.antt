@@ -29,11 +29,11 @@ use Rattle.tcl_tree.specs.Own.{Own}
 use Rattle.tcl_tree.specs.TreeOf.{key_of, tree_of}
 use Rattle.tcl_tree.specs.declared.tree.Tree.{Tree as Table}
 use Rattle.tcl_eval.specs.Running.{root_count}
-use Rattle.tcl_open_moves.specs.declared.moves.Budgeted.{Budgeted}
-use Rattle.tcl_open_moves.specs.declared.moves.Halt.{Halt}
-use Rattle.tcl_open_moves.specs.declared.moves.Halt.TheVariants as halt
-use Rattle.tcl_open_moves.specs.declared.moves.Outcome.{Outcome}
-use Rattle.tcl_open_moves.specs.declared.moves.Outcome.TheVariants as outcome
+use Rattle.tcl_embed.specs.declared.moves.Budgeted.{Budgeted}
+use Rattle.tcl_embed.specs.declared.moves.Halt.{Halt}
+use Rattle.tcl_embed.specs.declared.moves.Halt.TheVariants as halt
+use Rattle.tcl_embed.specs.declared.moves.Outcome.{Outcome}
+use Rattle.tcl_embed.specs.declared.moves.Outcome.TheVariants as outcome
 
 -- ## The outside with its budget
 

@@ -10,10 +10,10 @@ use Rattle.tcl_run.proofs.Steady.{steady-refl, steady-trans}
 use Rattle.tcl_run.specs.Entering.{whole_entry}
 use Rattle.tcl_tree.specs.Own.{Own}
 use Rattle.tcl_tree.specs.TreeOf.{Marks, marks_of, tree_of}
-use Rattle.tcl_open_moves.proofs.Moving.{given_up_between, given_up_within, goes_on, not_exited}
+use Rattle.tcl_embed.proofs.Moving.{given_up_between, given_up_within, goes_on, not_exited}
 use Rattle.tcl_run.proofs.Endings.{none_holds, some_holds}
 use Rattle.tcl_eval.proofs.Starting.{at_any_err}
-use Rattle.tcl_open_moves.proofs.moves.live.Goals as goal
+use Rattle.tcl_embed.proofs.moves.live.Goals as goal
 
 pub entries-init : goal.entries-init
 entries-init g c = (begun, steady-refl c.args.tree.now)

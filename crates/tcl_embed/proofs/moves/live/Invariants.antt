@@ -3,7 +3,7 @@ use Rattle.tcl_run.specs.Language.{language}
 use Rattle.tcl_reactions.specs.Moving.{Lived}
 use Rattle.tcl_run.specs.Runs.{IsSteady}
 use Rattle.tcl_tree.specs.TreeOf.{marks_of, tree_of}
-use Rattle.tcl_open_moves.proofs.moves.live.Given as goal
+use Rattle.tcl_embed.proofs.moves.live.Given as goal
 
 abbrev pub invariant-entries : goal.invariant-entries
 invariant-entries g l = Lived g.M.Outside.goes (language (marks_of l.fn.tree).integers) (tree_of l.fn.tree) l.fn.outside (tree_of l.tree) l.outside Finished × IsSteady l.fn.tree l.tree

@@ -1,8 +1,8 @@
 use Rattle.tcl_run.specs.Entering.{whole_entry}
 use Rattle.tcl_tree.specs.TreeOf.{marks_of, tree_of}
-use Rattle.tcl_open_moves.proofs.Moving.{comes_served, comes_to_nobody, err_more, gives_up_nowhere, gives_up_there}
+use Rattle.tcl_embed.proofs.Moving.{comes_served, comes_to_nobody, err_more, gives_up_nowhere, gives_up_there}
 use Rattle.tcl_eval.proofs.Starting.{at_any_err}
-use Rattle.tcl_open_moves.proofs.moves.live_through.Goals as goal
+use Rattle.tcl_embed.proofs.moves.live_through.Goals as goal
 
 pub returns-in_err-miss_entry-clause-given_up : goal.returns-in_err-miss_entry-clause-given_up
 returns-in_err-miss_entry-clause-given_up g c = at_any_err c.from_residual.result _
