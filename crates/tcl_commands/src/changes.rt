@@ -9,8 +9,8 @@ ghost use Rattle.tcl_text.specs.declared.integer.Integers.{Integers};
 ghost use Rattle.tcl_tree.specs.TreeOf.{Names};
 ghost use Rattle.tcl_commands.specs.Changes.{change_of, program_of, program_or};
 
-use std::alloc::Global;
 use crate::changing::{dict_append, dict_incr, dict_lappend, dict_set, dict_unset};
+use std::alloc::Global;
 use tcl_run::interruption::Interruption;
 use tcl_tree::tree::{Place, Tree};
 use tcl_value::value::Value;

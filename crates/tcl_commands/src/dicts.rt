@@ -9,10 +9,10 @@ ghost use Rattle.tcl_tree.specs.TreeOf.{Names};
 ghost use Rattle.tcl_words.specs.Outcomes.{Gives};
 ghost use Rattle.tcl_commands.specs.Subcommands.{outcome_of};
 
+use crate::answers::answered;
 use crate::changes::{Change, make_change};
 use crate::subcommand::Subcommand;
 use std::alloc::Global;
-use crate::answers::answered;
 use tcl_dicts::building::{create, merge, remove, replace};
 use tcl_dicts::finding::{exists, get, size};
 use tcl_dicts::listing::{keys, values};

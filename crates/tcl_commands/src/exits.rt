@@ -8,8 +8,8 @@ ghost use Rattle.tcl_run.specs.Runs.{IsLevel};
 ghost use Rattle.tcl_commands.specs.Exiting.{IsExit};
 ghost use Rattle.tcl_text.specs.Messages as messages;
 
-use std::alloc::Global;
 use crate::steps::word_integer;
+use std::alloc::Global;
 use tcl_run::failure::{plain_failure, wrong_args};
 use tcl_run::interruption::Interruption;
 use tcl_text::messages::BAD_STATUS;

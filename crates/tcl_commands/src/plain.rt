@@ -7,13 +7,12 @@ ghost use Rattle.tcl_run.specs.Runs.{IsLevel};
 ghost use Rattle.tcl_tree.specs.TreeOf.{Names};
 ghost use Rattle.tcl_commands.specs.Kinds.{is_effectful, is_plain};
 
-use crate::exits::exit;
-use std::alloc::Global;
 use crate::arrays::array;
 use crate::assigning::lassign;
 use crate::changing::lset;
 use crate::definitions::proc;
 use crate::ends::{breaks, continues, error, returns, throw};
+use crate::exits::exit;
 use crate::growing::{append, lappend};
 use crate::inspection::info;
 use crate::links::{global, upvar};
@@ -24,6 +23,7 @@ use crate::lists::{
 use crate::texts::{format, string};
 use crate::unsetting::unset;
 use crate::variables::{incr, set};
+use std::alloc::Global;
 use tcl_run::interruption::Interruption;
 use tcl_tree::builtin::Builtin;
 use tcl_tree::tree::{Place, Tree};

@@ -10,11 +10,11 @@ ghost use Rattle.tcl_text.specs.declared.integer.Integers.{Integers};
 
 use crate::evaluation::{eval_read, eval_value};
 use std::alloc::Global;
-use tcl_commands::dicts;
 use tcl_calls::levels::{bring_back, script_level, set_aside};
 use tcl_calls::scripts::script_of;
 use tcl_calls::turns::goes_on;
 use tcl_calls::walks::{FOREACH, Walk, is_over, loop_words, read_dict_loop, read_walks, set_walks};
+use tcl_commands::dicts;
 use tcl_run::failure::wrong_args;
 use tcl_run::interruption::Interruption;
 use tcl_run::outside::Outside;

@@ -17,13 +17,13 @@ ghost use Rattle.tcl_replay.specs.Watched.{ReactsUntil, unwatchable};
 ghost use Rattle.tcl_run.specs.Runs.{ways};
 ghost use Rattle.tcl_tree.specs.TreeOf.{marks_of, tree_of};
 
+use crate::watching::{begin_record, refusal_to_watch};
 use std::alloc::Global;
 use std::fmt;
 use tcl_eval::running::{OpenEnd, Refused, open_run};
 use tcl_isolation::laws::{asks_the_host_nothing, scripts_stay_within};
 use tcl_recorder::record::Record;
 use tcl_recorder::recorder::Recorder;
-use crate::watching::{begin_record, refusal_to_watch};
 use tcl_run::outside::Outside;
 use tcl_text::messages::WATCHED_DELETED;
 use tcl_text::text::Text;

@@ -12,9 +12,9 @@ ghost use Rattle.tcl_tree.specs.Changes.{RefusesLimit, RefusesMake};
 ghost use Rattle.tcl_tree.specs.Naming.{Becomes, RefusesAt, RefusesThere, cleared, named};
 ghost use Rattle.tcl_tree.specs.TreeOf.{marks_of, tree_of};
 
+use crate::entering::values_of;
 use indexmap::map::Keys;
 use std::alloc::{AllocError, Global};
-use crate::entering::values_of;
 use tcl_protocol::answers::{Answer, Standing};
 use tcl_protocol::messages::{Alias, AliasToClient, ClearAlias, Create, LimitCount, LimitDepth};
 use tcl_protocol::refusals::Refusal;

@@ -7,22 +7,22 @@ ghost use Rattle.tcl_protocol.specs.declared.answers.Ended.TheVariants.{Complete
 ghost use Rattle.tcl_serve.specs.Evaluating.{Begins, Evaluates, EvaluatesFor, Says, SaysRecord};
 ghost use Rattle.tcl_serve.specs.Evaluating.{Watches, WatchesFor, ended_as, of_refused};
 
+use crate::client::Client;
 use crate::keeping::lines_of;
 use crate::numbered::Numbered;
 use crate::served::ServedTree;
 use std::alloc::{AllocError, Global};
 use std::io::{BufRead, Write};
 use std::mem::replace;
-use crate::client::Client;
 use tcl_eval::running::{End, OpenEnd, Refused, open_run};
 use tcl_flow::completion::Completion;
 use tcl_functions::serving::WithFunctions;
 use tcl_host::memory::MemoryHost;
-use tcl_replay::open_watching::{OpenUnwatched, open_watched};
 use tcl_protocol::answers::{Answer, Ended, Watched};
 use tcl_protocol::messages::{Evaluate, STEPS, Watch};
 use tcl_protocol::refusals::Refusal;
 use tcl_recorder::record::Record;
+use tcl_replay::open_watching::{OpenUnwatched, open_watched};
 use tcl_text::text::Text;
 
 /// The client and the host of a tree, as what stands outside of the tree.

@@ -3,10 +3,10 @@ ghost use Rattle.std.specs.Prelude.{◌≡◌, None, Some};
 ghost use Rattle.tcl_serve.specs.Views.{ClientView};
 ghost use Rattle.tcl_serve.specs.Serving.{IsServed, Turns};
 
+use crate::client::Client;
 use crate::session::Session;
 use std::alloc::Global;
 use std::io::{BufRead, Write};
-use crate::client::Client;
 use tcl_protocol::lines::Ending;
 
 /// Serves the client at the other end of a reader and a writer: each line that is read is answered

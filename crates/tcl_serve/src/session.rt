@@ -4,13 +4,13 @@ ghost use Rattle.tcl_protocol.specs.Messages.{asks_of, evaluation_of, place_of, 
 ghost use Rattle.tcl_protocol.specs.Messages as asks;
 ghost use Rattle.tcl_serve.specs.Sessions.{Answers, Does, IsEmpty};
 
+use crate::client::Client;
 use crate::evaluating::{evaluate, watch};
 use crate::keeping::{replayed, save_at};
 use crate::numbered::Numbered;
 use crate::served::ServedTree;
 use std::alloc::Global;
 use std::io::{BufRead, Write};
-use crate::client::Client;
 use tcl_protocol::answers::Answer;
 use tcl_protocol::fields::Field;
 use tcl_protocol::messages::{Ask, Compare, Evaluate, Interpreter, Message, Replay, Watch};

@@ -11,8 +11,8 @@ use crate::standing::Standing;
 use std::alloc::{AllocError, Global};
 use std::mem::replace;
 use tcl_eval::running::{OpenEnd, open_run};
-use tcl_replay::open_watching::{OpenUnwatched, open_watched};
 use tcl_recorder::record::Record;
+use tcl_replay::open_watching::{OpenUnwatched, open_watched};
 use tcl_text::text::Text;
 use tcl_tree::tree::Tree;
 
