@@ -5,11 +5,11 @@ ghost use Rattle.tcl_characters.specs.Texts.{is_among};
 ghost use Rattle.tcl_core.specs.Endings.Reply.{Completed};
 ghost use Rattle.tcl_language.specs.Instructions.{too_long as too_long_error, fits};
 ghost use Rattle.tcl_language.specs.Words.{concat as concatenated};
-ghost use Rattle.tcl_list_texts.specs.Joining.{trimmed, white};
+ghost use Rattle.tcl_lists.specs.Joining.{trimmed, white};
 ghost use Rattle.tcl_run.specs.Ends.{Interrupts};
 
 use std::alloc::{AllocError, Global};
-use tcl_list_texts::joining::concat;
+use tcl_lists::joining::concat;
 use tcl_run::failure::refused;
 use tcl_run::interruption::Interruption;
 use tcl_text::limit::MOST_BYTES;

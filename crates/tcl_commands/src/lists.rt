@@ -2,8 +2,8 @@
 ghost use Rattle.std.specs.Prelude.{◌≡◌};
 ghost use Rattle.tcl_language.specs.Data.{answered};
 ghost use Rattle.tcl_language.specs.Instructions.{gives};
-ghost use Rattle.tcl_list_texts.specs.Joining.{concat_of, join_of};
-ghost use Rattle.tcl_list_texts.specs.Splitting.{split_of};
+ghost use Rattle.tcl_lists.specs.Joining.{concat_of, join_of};
+ghost use Rattle.tcl_lists.specs.Splitting.{split_of};
 ghost use Rattle.tcl_lists.specs.Lists.{lindex_of, linsert_of, llength_of, lrange_of, lrepeat_of};
 ghost use Rattle.tcl_lists.specs.Lists.{lreplace_of, lreverse_of};
 ghost use Rattle.tcl_run.specs.Plain.{Acts};

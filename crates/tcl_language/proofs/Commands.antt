@@ -56,8 +56,8 @@ use Rattle.tcl_language.specs.Table as table
 use Rattle.tcl_language.specs.Trying as trying
 use Rattle.tcl_language.specs.Variables as variables
 use Rattle.tcl_language.specs.Words.{concat, is_level}
-use Rattle.tcl_list_texts.specs.Joining.{concat_of, join_of}
-use Rattle.tcl_list_texts.specs.Splitting.{split_of}
+use Rattle.tcl_lists.specs.Joining.{concat_of, join_of}
+use Rattle.tcl_lists.specs.Splitting.{split_of}
 use Rattle.tcl_dicts.specs.Changing as dict_changing
 use Rattle.tcl_lists.specs.Changing.{lset_of}
 use Rattle.tcl_lists.specs.Lists.{first_middle_last, two_and_rest, lappend_of, lassign_rest, lindex_of, linsert_of, llength_of, lrange_of, lrepeat_of, lreplace_of, lreverse_of}

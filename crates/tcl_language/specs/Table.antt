@@ -24,8 +24,8 @@ use Rattle.tcl_language.specs.Instructions.Instr.{While, For, Handled, Serve}
 use Rattle.tcl_language.specs.Faults.{invalid_command, invalid_hidden, bad_name}
 use Rattle.tcl_lists.specs.Lists.{lindex_of, linsert_of, llength_of, lrange_of, lrepeat_of}
 use Rattle.tcl_lists.specs.Lists.{lreplace_of, lreverse_of}
-use Rattle.tcl_list_texts.specs.Joining.{concat_of, join_of}
-use Rattle.tcl_list_texts.specs.Splitting.{split_of}
+use Rattle.tcl_lists.specs.Joining.{concat_of, join_of}
+use Rattle.tcl_lists.specs.Splitting.{split_of}
 use Rattle.tcl_search_and_sort.specs.Searching.{lsearch_of}
 use Rattle.tcl_search_and_sort.specs.Computed.{lsort_of}
 use Rattle.tcl_strings.specs.Subcommands.{string_of}

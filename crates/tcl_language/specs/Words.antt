@@ -1,7 +1,7 @@
 -- Words put together into a script.
 use Rattle.std.specs.Prelude.{Bool, true, false, List, [], ◌∷◌, ◌==◌, cond, ◌&&◌, nat_le, codes}
 use Rattle.tcl_core.specs.Paths.{Text}
-use Rattle.tcl_list_texts.specs.Joining.{joined, filled}
+use Rattle.tcl_lists.specs.Joining.{joined, filled}
 
 -- White space is trimmed off both ends of each word, what is then empty left out, and the rest
 -- joined by one space.

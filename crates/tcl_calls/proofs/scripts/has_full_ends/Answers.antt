@@ -4,7 +4,7 @@ use Rattle.std.specs.Str.{chars}
 use Rattle.tcl_characters.specs.Texts.{text_of, trim_end}
 use Rattle.tcl_characters.proofs.Ends.{start_stops, end_stops}
 use Rattle.tcl_characters.proofs.Trims.{chars_of_start}
-use Rattle.tcl_list_texts.specs.Joining.{white}
+use Rattle.tcl_lists.specs.Joining.{white}
 use Rattle.tcl_calls.proofs.scripts.has_full_ends.Goals as goal
 
 pub returns-then-is_past_white : goal.returns-then-is_past_white

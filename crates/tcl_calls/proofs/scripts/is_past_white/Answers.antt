@@ -2,7 +2,7 @@ use Rattle.std.proofs.Common.{◌≡◌, ℕ, IsTrue, nat_lt, false, arith, ap, 
 use Rattle.std.proofs.lemmas.Bool.Decides.{nat_tests}
 use Rattle.std.specs.Str.{chars}
 use Rattle.tcl_characters.specs.Texts.{is_among}
-use Rattle.tcl_list_texts.specs.Joining.{white}
+use Rattle.tcl_lists.specs.Joining.{white}
 use Rattle.tcl_calls.proofs.scripts.is_past_white.Goals as goal
 
 chars_white : chars white ≡ white

@@ -1,5 +1,5 @@
 use Rattle.std.proofs.Common.{refl}
-use Rattle.tcl_list_texts.specs.Joining.{join_of}
+use Rattle.tcl_lists.specs.Joining.{join_of}
 use Rattle.tcl_tree.specs.TreeOf.{marks_of}
 use Rattle.tcl_commands.proofs.Answering.{given_acts}
 use Rattle.tcl_commands.proofs.lists.join.Goals as goal
