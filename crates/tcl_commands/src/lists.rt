@@ -8,8 +8,8 @@ ghost use Rattle.tcl_lists.specs.Lists.{lindex_of, linsert_of, llength_of, lrang
 ghost use Rattle.tcl_lists.specs.Lists.{lreplace_of, lreverse_of};
 ghost use Rattle.tcl_run.specs.Plain.{Acts};
 ghost use Rattle.tcl_run.specs.Runs.{IsLevel};
-ghost use Rattle.tcl_search_and_sort.specs.Computed.{lsort_of};
-ghost use Rattle.tcl_search_and_sort.specs.Searching.{lsearch_of};
+ghost use Rattle.tcl_lists.specs.Computed.{lsort_of};
+ghost use Rattle.tcl_lists.specs.Searching.{lsearch_of};
 ghost use Rattle.tcl_text.specs.Writing.{written_list};
 
 use crate::answers::answered;

@@ -67,8 +67,8 @@ use Rattle.tcl_parser.specs.Words.{WordRead}
 use Rattle.tcl_parser.specs.declared.fault.Fault.{Fault}
 use Rattle.tcl_parser.specs.declared.script.Part.{Part}
 use Rattle.tcl_parser.specs.declared.script.Part.TheVariants as part
-use Rattle.tcl_search_and_sort.specs.Searching.{lsearch_of}
-use Rattle.tcl_search_and_sort.specs.Computed.{lsort_of}
+use Rattle.tcl_lists.specs.Searching.{lsearch_of}
+use Rattle.tcl_lists.specs.Computed.{lsort_of}
 use Rattle.tcl_strings.specs.Subcommands.{string_of}
 use Rattle.tcl_text.specs.Lists.{list_of}
 use Rattle.tcl_text.specs.Numbers.{fits_64, in_64_bits, integer_of}

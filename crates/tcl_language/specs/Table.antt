@@ -26,8 +26,8 @@ use Rattle.tcl_lists.specs.Lists.{lindex_of, linsert_of, llength_of, lrange_of, 
 use Rattle.tcl_lists.specs.Lists.{lreplace_of, lreverse_of}
 use Rattle.tcl_lists.specs.Joining.{concat_of, join_of}
 use Rattle.tcl_lists.specs.Splitting.{split_of}
-use Rattle.tcl_search_and_sort.specs.Searching.{lsearch_of}
-use Rattle.tcl_search_and_sort.specs.Computed.{lsort_of}
+use Rattle.tcl_lists.specs.Searching.{lsearch_of}
+use Rattle.tcl_lists.specs.Computed.{lsort_of}
 use Rattle.tcl_strings.specs.Subcommands.{string_of}
 use Rattle.tcl_format.specs.Filling.{format_of}
 use Rattle.tcl_language.specs.Arrays as arrays

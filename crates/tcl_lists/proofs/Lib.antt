@@ -6,3 +6,8 @@ pub mod LastWords
 pub mod Added
 pub mod Between
 pub mod Undone
+pub mod LastTwo
+pub mod Reversed
+pub mod Given
+pub mod SortOptions
+pub mod Orders

@@ -4,3 +4,8 @@ pub mod Changing
 pub mod Joining
 pub mod Splitting
 pub mod Laws
+pub mod Searching
+pub mod SearchOptions
+pub mod Sorting
+pub mod SortCommand
+pub mod Computed

@@ -1,5 +1,5 @@
 use Rattle.std.proofs.Common.{refl}
-use Rattle.tcl_search_and_sort.specs.Searching.{lsearch_of}
+use Rattle.tcl_lists.specs.Searching.{lsearch_of}
 use Rattle.tcl_tree.specs.TreeOf.{marks_of}
 use Rattle.tcl_commands.proofs.Answering.{given_acts}
 use Rattle.tcl_commands.proofs.lists.lsearch.Goals as goal

@@ -1,4 +1,4 @@
-use Rattle.tcl_search_and_sort.specs.Computed.{lsort_of}
+use Rattle.tcl_lists.specs.Computed.{lsort_of}
 use Rattle.tcl_commands.proofs.Answering.{given_acts}
 use Rattle.tcl_commands.proofs.lists.lsort.Goals as goal
 

@@ -1,7 +1,0 @@
-use Rattle.std.proofs.Common.{◌≡◌, ◌++◌, drop, Ok}
-use Rattle.tcl_words.specs.Outcomes.{next}
-use Rattle.tcl_search_and_sort.specs.Sorting.{numbered}
-use Rattle.tcl_search_and_sort.proofs.numbers.numbered.Given as goal
-
-abbrev pub invariant-elements : goal.invariant-elements
-invariant-elements l = next (numbered l.style (drop l.index l.list)) (λ rest. Ok (l.rows.items ++ rest)) ≡ numbered l.style l.list

@@ -1,6 +1,0 @@
-use Rattle.std.proofs.Common.{◌≡◌, drop}
-use Rattle.tcl_search_and_sort.specs.SortCommand.{with_options}
-use Rattle.tcl_search_and_sort.proofs.sort_options.Sorting.with_options.Given as goal
-
-abbrev pub invariant-words : goal.invariant-words
-invariant-words l = with_options l.sorting (drop l.word-index l.words) ≡ with_options l.fn.self l.words

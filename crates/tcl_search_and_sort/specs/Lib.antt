@@ -1,5 +1,0 @@
-pub mod Searching
-pub mod SearchOptions
-pub mod Sorting
-pub mod SortCommand
-pub mod Computed
