@@ -14,10 +14,10 @@ ghost use Rattle.tcl_text.specs.Writing.{written_list};
 
 use crate::answers::answered;
 use std::alloc::Global;
-use tcl_list_texts::{joining, splitting};
+use tcl_lists::{joining, splitting};
 use tcl_lists::{commands, indexes, lengthening};
 use tcl_run::interruption::Interruption;
-use tcl_search_and_sort::{searching, sorting};
+use tcl_lists::{searching, sorting};
 use tcl_tree::tree::{Place, Tree};
 use tcl_value::value::Value;
 
