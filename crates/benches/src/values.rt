@@ -2,7 +2,7 @@
 use crate::measuring::measured;
 use std::alloc::{AllocError, Global};
 use std::io;
-use tcl_nested::changing::{remove_key, set_element, set_value};
+use tcl_lists::nested::{remove_key, set_element, set_value};
 use tcl_text::integer::Integers;
 use tcl_text::text::Text;
 use tcl_value::value::{Value, ValueError};

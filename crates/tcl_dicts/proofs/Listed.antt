@@ -3,8 +3,8 @@ use Rattle.std.proofs.Common.{◌≡◌, ℕ, ◌≤◌, List, [], ◌∷◌, �
 use Rattle.tcl_words.specs.Faults.{too_long}
 use Rattle.tcl_value.specs.Limits.{IsPast}
 use Rattle.tcl_value.specs.Writing.{write}
-use Rattle.tcl_nested.proofs.Lengths.{element_longer}
-use Rattle.tcl_nested.proofs.Placed.{placed_behind}
+use Rattle.tcl_lists.proofs.NestedLengths.{element_longer}
+use Rattle.tcl_lists.proofs.Placed.{placed_behind}
 use Rattle.tcl_lists.specs.Lists.{Texts, list_value}
 use Rattle.tcl_lists.proofs.Lengths.{past_at}
 

@@ -13,7 +13,7 @@ use Rattle.tcl_words.specs.Words.{integer_word}
 use Rattle.tcl_words.specs.Faults.{wrong_arguments}
 use Rattle.tcl_words.specs.Limits.{limited}
 use Rattle.tcl_value.specs.Dicts.{put, value_of}
-use Rattle.tcl_nested.specs.Nested.{value_changed, key_removed, value_or_empty}
+use Rattle.tcl_lists.specs.Nested.{value_changed, key_removed, value_or_empty}
 use Rattle.tcl_lists.specs.Lists.{Texts, first_middle_last, lappend_of as longer_list}
 use Rattle.tcl_lists.specs.Changing.{nested_outcome}
 use Rattle.tcl_dicts.specs.Dicts.{dict_word, dict_value}

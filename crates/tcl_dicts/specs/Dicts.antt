@@ -16,7 +16,7 @@ use Rattle.tcl_value.specs.Dicts.{Pairs, put, without, value_of, dict_of}
 use Rattle.tcl_value.specs.DictMessages.{dict_message}
 use Rattle.tcl_value.specs.declared.dict_fault.DictFault.{DictFault}
 use Rattle.tcl_lists.specs.Lists.{Texts, list_value, first_and_rest, two_and_rest}
-use Rattle.tcl_nested.specs.Errors.{unknown_key}
+use Rattle.tcl_lists.specs.Errors.{unknown_key}
 
 -- the dict of what was read, or what is told of its fault
 abbrev pub dict_or : Result Pairs DictFault → Result Pairs (List ℕ)

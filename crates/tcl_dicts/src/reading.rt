@@ -3,12 +3,12 @@ ghost use Rattle.std.specs.Prelude.{◌≡◌, ℕ, List, Err};
 ghost use Rattle.tcl_words.specs.Outcomes.{Gives, Refuses};
 ghost use Rattle.tcl_value.specs.DictMessages.{dict_message};
 ghost use Rattle.tcl_dicts.specs.Dicts.{dict_word, dict_value};
-ghost use Rattle.tcl_nested.specs.Errors.{unknown_key};
+ghost use Rattle.tcl_lists.specs.Errors.{unknown_key};
 ghost use Rattle.tcl_dicts.specs.Refusing.{RefusesEntry};
 
 use std::alloc::Global;
 use tcl_lists::refusing::not_made;
-use tcl_nested::fault::unknown_key_message;
+use tcl_lists::fault::unknown_key_message;
 use tcl_value::dict::Dict;
 use tcl_value::dict_fault::{DictError, DictFault, EntryError};
 use tcl_value::value::Value;

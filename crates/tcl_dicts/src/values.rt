@@ -3,7 +3,7 @@ ghost use Rattle.std.specs.Prelude.{◌≡◌, ◌++◌, ◌+ℤ◌, ℕ, List, 
 ghost use Rattle.std.specs.Option.{option_copied};
 ghost use Rattle.tcl_words.specs.Outcomes.{Gives, Refuses};
 ghost use Rattle.tcl_words.specs.Limits.{limited};
-ghost use Rattle.tcl_nested.specs.Nested.{value_or_empty};
+ghost use Rattle.tcl_lists.specs.Nested.{value_or_empty};
 ghost use Rattle.tcl_dicts.specs.Changing.{integer_or, overflow, number_value, incremented, joined};
 ghost use Rattle.tcl_dicts.specs.Changing.{appended, lengthened};
 

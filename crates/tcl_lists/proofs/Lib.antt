@@ -11,3 +11,8 @@ pub mod Reversed
 pub mod Given
 pub mod SortOptions
 pub mod Orders
+pub mod NestedLengths
+pub mod Levels
+pub mod Places
+pub mod Placed
+pub mod Named

@@ -5,9 +5,9 @@ use Rattle.tcl_text.specs.declared.integer.Integers.{Integers}
 use Rattle.tcl_words.specs.Outcomes.{Outcome, next}
 use Rattle.tcl_words.specs.Words.{list_word}
 use Rattle.tcl_words.specs.Limits.{limited}
-use Rattle.tcl_nested.specs.Nested.{element_changed}
-use Rattle.tcl_nested.specs.Errors.{nested_message}
-use Rattle.tcl_nested.specs.declared.fault.NestedFault.{NestedFault}
+use Rattle.tcl_lists.specs.Nested.{element_changed}
+use Rattle.tcl_lists.specs.Errors.{nested_message}
+use Rattle.tcl_lists.specs.declared.fault.NestedFault.{NestedFault}
 use Rattle.tcl_lists.specs.Lists.{Texts, indexes_of}
 
 -- what a command tells of a change inside nested lists or dicts: its text, or 122; or what is at

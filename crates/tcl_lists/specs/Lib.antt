@@ -9,3 +9,6 @@ pub mod SearchOptions
 pub mod Sorting
 pub mod SortCommand
 pub mod Computed
+pub mod Nested
+pub mod Errors
+pub mod Steps

@@ -1,7 +1,7 @@
 //! The change that `lset` makes.
 ghost use Rattle.std.specs.Prelude.{◌≡◌, List, ℕ, Result, codes};
 ghost use Rattle.tcl_words.specs.Outcomes.{Gives, Refuses};
-ghost use Rattle.tcl_nested.specs.Nested.{element_changed};
+ghost use Rattle.tcl_lists.specs.Nested.{element_changed};
 ghost use Rattle.tcl_lists.specs.Lists.{Texts, Changes, first_middle_last};
 ghost use Rattle.tcl_lists.specs.Changing.{nested_outcome, path_or, path_of, lset_of};
 
@@ -9,7 +9,7 @@ use crate::indexes::indexes_of;
 use crate::reading::{first_middle_last, own_list};
 use crate::refusing::nested_refusal;
 use std::alloc::Global;
-use tcl_nested::changing::set_element;
+use crate::nested::set_element;
 use tcl_text::integer::Integers;
 use tcl_value::value::Value;
 use tcl_words::refusal::Refusal;

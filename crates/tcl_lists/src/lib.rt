@@ -4,10 +4,12 @@
 pub mod building;
 pub mod changing;
 pub mod commands;
+pub mod fault;
 pub mod indexes;
 pub mod joining;
 pub mod laws;
 pub mod lengthening;
+pub mod nested;
 pub mod numbers;
 pub mod ordering;
 pub mod places;
@@ -19,3 +21,4 @@ pub mod searching;
 pub mod sort_options;
 pub mod sorting;
 pub mod splitting;
+mod step;

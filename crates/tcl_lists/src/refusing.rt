@@ -3,14 +3,14 @@ ghost use Rattle.std.specs.Prelude.{◌≡◌, ℕ, List, Result, Err};
 ghost use Rattle.tcl_words.specs.Outcomes.{Outcome, Refuses};
 ghost use Rattle.tcl_words.specs.Faults.{too_long};
 ghost use Rattle.tcl_text.specs.Writing.{fault_message};
-ghost use Rattle.tcl_nested.specs.declared.fault.NestedFault.{NestedFault};
-ghost use Rattle.tcl_nested.specs.Nested.{RefusesText};
-ghost use Rattle.tcl_nested.specs.Errors.{nested_message};
+ghost use Rattle.tcl_lists.specs.declared.fault.NestedFault.{NestedFault};
+ghost use Rattle.tcl_lists.specs.Nested.{RefusesText};
+ghost use Rattle.tcl_lists.specs.Errors.{nested_message};
 ghost use Rattle.tcl_lists.specs.Changing.{nested_outcome};
 ghost use Rattle.tcl_lists.specs.Refusing.{out_of_range, RefusesChange};
 
 use std::alloc::{AllocError, Global};
-use tcl_nested::fault::{NestedError, NestedFault};
+use crate::fault::{NestedError, NestedFault};
 use tcl_text::list::ListFault;
 use tcl_text::messages::OUT_OF_RANGE;
 use tcl_text::text::Text;

@@ -5,8 +5,8 @@ use crate::value_rows::answers::{
 use crate::value_rows::commands::changed_by_command;
 use crate::value_rows::reading::{Call, Verb, number_of, path_of, places_of};
 use std::alloc::Global;
-use tcl_nested::changing::{remove_key, set_element, set_value};
-use tcl_nested::fault::NestedError;
+use tcl_lists::nested::{remove_key, set_element, set_value};
+use tcl_lists::fault::NestedError;
 use tcl_parse_cache::readings::Readings;
 use tcl_text::integer::{IntegerFault, Integers};
 use tcl_text::list::ListError;

@@ -1,3 +1,0 @@
-pub mod Nested
-pub mod Errors
-pub mod Steps

@@ -1,6 +1,0 @@
-//! Changes inside nested lists and dicts.
-#![tactic(auto)]
-
-pub mod changing;
-pub mod fault;
-mod step;
