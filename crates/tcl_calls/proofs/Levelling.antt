@@ -11,9 +11,9 @@ use Rattle.tcl_text.specs.declared.integer.Integers.{Integers}
 use Rattle.tcl_tree.specs.Own.{Own}
 use Rattle.tcl_frames.specs.Chain.{Chain}
 use Rattle.tcl_language.specs.Control.{chain_or}
-use Rattle.tcl_variables.specs.Faults.{Refuses}
-use Rattle.tcl_variables.specs.declared.fault.FrameError.TheVariants.{Fault}
-use Rattle.tcl_variables.specs.declared.fault.FrameFault.{FrameFault}
+use Rattle.tcl_frames.specs.Faults.{Refuses}
+use Rattle.tcl_frames.specs.declared.fault.FrameError.TheVariants.{Fault}
+use Rattle.tcl_frames.specs.declared.fault.FrameFault.{FrameFault}
 use Rattle.tcl_calls.specs.Levels.{level_at_node, levelled, script_level, with_script}
 
 -- ## The words of an `uplevel`

@@ -8,7 +8,7 @@ use Rattle.tcl_interpreter.specs.declared.command.Command.{Command}
 use Rattle.tcl_language.specs.Faults.{invalid_command}
 use Rattle.tcl_language.specs.Naming.{of_global, command_name}
 use Rattle.tcl_tree.specs.Own.{Own}
-use Rattle.tcl_variables.specs.Names.{has_colons, after_colons, after_colon, after_colon_in, colons_after}
+use Rattle.tcl_frames.specs.Names.{has_colons, after_colons, after_colon, after_colon_in, colons_after}
 use Rattle.tcl_calls.specs.Found.{found, kept_as, or_missing}
 
 -- the second of two bytes, the first of which is a colon

@@ -21,7 +21,7 @@ use tcl_run::interruption::Interruption;
 use tcl_run::levels::{MOST_LEVELS, level_of};
 use tcl_tree::tree::{Place, Tree};
 use tcl_value::value::Value;
-use tcl_variables::fault::FrameError;
+use tcl_frames::fault::FrameError;
 
 /// The level that a word names. (uplevel(n))
 ///

@@ -17,7 +17,7 @@ use tcl_tree::builtin::Builtin;
 use tcl_tree::command::Command;
 use tcl_tree::tree::{Place, Tree};
 use tcl_value::value::Value;
-use tcl_variables::name::{after_leading, with_colons};
+use tcl_frames::name::{after_leading, with_colons};
 
 /// The name, where no two colons stand side by side in it.
 fn plain(name: Text) -> Option<Text>

@@ -35,7 +35,7 @@ use tcl_tree::parameter::Parameter;
 use tcl_tree::tree::{Place, Tree};
 use tcl_value::list::List;
 use tcl_value::value::Value;
-use tcl_variables::fault::FrameError;
+use tcl_frames::fault::FrameError;
 
 /// What a parameter is bound to in a call.
 #[derive(Drop)]

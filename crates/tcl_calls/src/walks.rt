@@ -37,7 +37,7 @@ use tcl_run::steps::{read_list, variable_name};
 use tcl_tree::tree::{Place, Tree};
 use tcl_value::list::List;
 use tcl_value::value::Value;
-use tcl_variables::variable_name::VariableName;
+use tcl_frames::variable_name::VariableName;
 
 /// The form of `foreach`.
 pub const FOREACH: &str = "foreach varList list ?varList list ...? command";

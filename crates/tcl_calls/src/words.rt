@@ -28,7 +28,7 @@ use tcl_text::text::Text;
 use tcl_tree::tree::{Place, Tree};
 use tcl_value::list::List;
 use tcl_value::value::Value;
-use tcl_variables::variable_name::VariableName;
+use tcl_frames::variable_name::VariableName;
 
 /// The words of a command that is put together. Up to four take no allocation.
 pub type Words = SmallVec<Value, 4>;

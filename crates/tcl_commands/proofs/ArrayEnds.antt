@@ -28,8 +28,8 @@ use Rattle.tcl_text.specs.Messages.{missing_value}
 use Rattle.tcl_text.specs.Writing.{fault_message, written_list}
 use Rattle.tcl_text.specs.declared.list.ListFault.{ListFault}
 use Rattle.tcl_text.proofs.Items.{drop_at}
-use Rattle.tcl_variables.specs.Arrays.{Elements}
-use Rattle.tcl_variables.specs.declared.fault.FrameFault.{FrameFault}
+use Rattle.tcl_frames.specs.VariableArrays.{Elements}
+use Rattle.tcl_frames.specs.declared.fault.FrameFault.{FrameFault}
 use Rattle.tcl_commands.specs.Steps.{EndsAt, Leads, Styled}
 use Rattle.tcl_commands.proofs.Going.{acts_as, ends_done, found_by_look, found_by_reading, passed_acts}
 use Rattle.tcl_commands.proofs.Linking.{two_front}

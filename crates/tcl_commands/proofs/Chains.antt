@@ -23,11 +23,11 @@ use Rattle.tcl_tree.specs.TreeOf.{tree_of, Names}
 use Rattle.tcl_tree.specs.declared.tree.Tree.{Tree as Table}
 use Rattle.tcl_tree.specs.declared.tree.Place.{Place as TablePlace}
 use Rattle.tcl_tree.proofs.CoreLemmas.{tree_there}
-use Rattle.tcl_variables.specs.Faults.{Refuses}
-use Rattle.tcl_variables.specs.declared.fault.FrameError.{FrameError}
-use Rattle.tcl_variables.specs.declared.fault.FrameError.TheVariants as frame_error
-use Rattle.tcl_variables.specs.declared.fault.FrameFault.{FrameFault}
-use Rattle.tcl_variables.specs.declared.fault.FrameFault.TheVariants as fault
+use Rattle.tcl_frames.specs.Faults.{Refuses}
+use Rattle.tcl_frames.specs.declared.fault.FrameError.{FrameError}
+use Rattle.tcl_frames.specs.declared.fault.FrameError.TheVariants as frame_error
+use Rattle.tcl_frames.specs.declared.fault.FrameFault.{FrameFault}
+use Rattle.tcl_frames.specs.declared.fault.FrameFault.TheVariants as fault
 use Rattle.tcl_commands.specs.Reading.{is_bad_name, Left, LeavesSet}
 use Rattle.tcl_commands.specs.Steps.{Styled, EndsAt, Leads, Steps}
 use Rattle.tcl_commands.proofs.Going.{leads_by, ends_as}

@@ -37,7 +37,7 @@ use Rattle.tcl_tree.specs.TreeOf.{tree_of, marks_of, Names}
 use Rattle.tcl_tree.specs.declared.tree.Tree.{Tree as Table}
 use Rattle.tcl_tree.specs.declared.tree.Place.{Place as TablePlace}
 use Rattle.tcl_tree.proofs.CoreLemmas.{tree_there}
-use Rattle.tcl_variables.specs.declared.fault.FrameFault.{FrameFault}
+use Rattle.tcl_frames.specs.declared.fault.FrameFault.{FrameFault}
 use Rattle.tcl_words.specs.Outcomes.{Outcome}
 use Rattle.tcl_words.proofs.WordLemmas.{limited_past, limited_within}
 use Rattle.tcl_commands.specs.Steps.{EndsAt}

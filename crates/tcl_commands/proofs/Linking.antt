@@ -21,7 +21,7 @@ use Rattle.tcl_tree.specs.Own.{Own}
 use Rattle.tcl_tree.specs.TreeOf.{tree_of, Names}
 use Rattle.tcl_tree.specs.declared.tree.Tree.{Tree as Table}
 use Rattle.tcl_tree.specs.declared.tree.Place.{Place as TablePlace}
-use Rattle.tcl_variables.specs.Names.{name_of}
+use Rattle.tcl_frames.specs.Names.{name_of}
 use Rattle.tcl_commands.specs.Steps.{Styled, EndsAt, Leads}
 use Rattle.tcl_commands.proofs.Going.{acts_as, goes_acts, passed_acts}
 use Rattle.tcl_commands.proofs.Looking.{acts_looking}

@@ -19,7 +19,7 @@ use Rattle.tcl_run.specs.Outsides.{Going}
 use Rattle.tcl_run.specs.Runs.{Comes, Rechained}
 use Rattle.tcl_run.proofs.Leads.{sees_below}
 use Rattle.tcl_tree.specs.Own.{Own}
-use Rattle.tcl_variables.specs.declared.fault.FrameFault.{FrameFault}
+use Rattle.tcl_frames.specs.declared.fault.FrameFault.{FrameFault}
 use Rattle.tcl_commands.specs.Reaching.{Reaches, ReachesEnd}
 use Rattle.tcl_commands.specs.Reaching.Reaches.{here, looked, changed}
 

@@ -30,7 +30,7 @@ use Rattle.tcl_interpreter.specs.declared.refusal.TreeError.TheVariants as refus
 use Rattle.tcl_tree.specs.declared.tree.Tree.{Tree as Table}
 use Rattle.tcl_tree.specs.declared.tree.Place.{Place as TablePlace}
 use Rattle.tcl_tree.proofs.CoreLemmas.{tree_there}
-use Rattle.tcl_variables.specs.Names as names
+use Rattle.tcl_frames.specs.Names as names
 use Rattle.tcl_commands.specs.Renaming.{IsBadName, IsNoOwnCommand, IsOwnCommand, TellsRefusal, Told, is_memory}
 use Rattle.tcl_commands.specs.Steps.{EndsAt}
 

@@ -6,13 +6,13 @@ use Rattle.std.specs.Map.{lookup}
 use Rattle.indexmap.specs.IndexMap.{insert_entry}
 use Rattle.tcl_frames.specs.Chain.{Chain, read, written, with_frames, after_set, bind, bound_to, on_level, by_place, place_named}
 use Rattle.tcl_frames.specs.Places.{Levels, Spot, bound}
-use Rattle.tcl_variables.specs.Access.{value_of, assigned, read_element}
-use Rattle.tcl_variables.specs.Names.{Text}
-use Rattle.tcl_variables.specs.Variables.{Part, Variables}
-use Rattle.tcl_variables.specs.Variables.Part.{whole, element, nested}
-use Rattle.tcl_variables.specs.declared.variable.Variable.{Variable}
-use Rattle.tcl_variables.specs.declared.variable.Variable.TheVariants.{Scalar, Array, Link}
-use Rattle.tcl_variables.specs.declared.fault.FrameFault.{FrameFault}
+use Rattle.tcl_frames.specs.Access.{value_of, assigned, read_element}
+use Rattle.tcl_frames.specs.Names.{Text}
+use Rattle.tcl_frames.specs.Variables.{Part, Variables}
+use Rattle.tcl_frames.specs.Variables.Part.{whole, element, nested}
+use Rattle.tcl_frames.specs.declared.variable.Variable.{Variable}
+use Rattle.tcl_frames.specs.declared.variable.Variable.TheVariants.{Scalar, Array, Link}
+use Rattle.tcl_frames.specs.declared.fault.FrameFault.{FrameFault}
 
 insert_by : {V : Type 0} (e : Text × V) (es : List (Text × V)) (k : Text) (v : V) (b : Bool) → (lookup (bytes_eq k) es ≡ Some v → insert_entry bytes_eq es k v ≡ es) →
     cond b (Some e.1) (lookup (bytes_eq k) es) ≡ Some v → cond b ((e.0, v) ∷ es) (e ∷ insert_entry bytes_eq es k v) ≡ e ∷ es

@@ -12,7 +12,7 @@ use Rattle.tcl_lists.specs.Lists.{lappend_of}
 use Rattle.tcl_run.specs.Ends.{Interrupts, failing}
 use Rattle.tcl_run.specs.declared.interruption.Interruption.{Interruption}
 use Rattle.tcl_tree.specs.Own.{Own}
-use Rattle.tcl_variables.specs.declared.fault.FrameFault.{FrameFault}
+use Rattle.tcl_frames.specs.declared.fault.FrameFault.{FrameFault}
 use Rattle.tcl_words.specs.Outcomes.{Outcome}
 
 -- what a text grows to, or the error that it doesn't

@@ -24,7 +24,7 @@ use tcl_text::integer::Integers;
 use tcl_text::text::Text;
 use tcl_tree::tree::{Place, Tree};
 use tcl_value::value::Value;
-use tcl_variables::variable_name::VariableName;
+use tcl_frames::variable_name::VariableName;
 use tcl_words::refusal::Refusal;
 
 /// A change of what a variable holds, with the words that it takes.

@@ -30,7 +30,7 @@ use tcl_tree::procedure::Procedure;
 use tcl_tree::refusal::TreeError;
 use tcl_tree::tree::{Place, Tree};
 use tcl_value::value::Value;
-use tcl_variables::name::is_plain_name;
+use tcl_frames::name::is_plain_name;
 
 /// Whether a parameter has the name.
 fn has_name(name: &Text, parameters: &[Parameter]) -> bool

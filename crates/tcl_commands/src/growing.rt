@@ -27,8 +27,8 @@ use tcl_text::limit::MOST_BYTES;
 use tcl_text::text::Text;
 use tcl_tree::tree::{Place, Tree};
 use tcl_value::value::Value;
-use tcl_variables::fault::FrameError;
-use tcl_variables::variable_name::VariableName;
+use tcl_frames::fault::FrameError;
+use tcl_frames::variable_name::VariableName;
 use tcl_words::refusal::Refusal;
 
 /// Whether a value is no longer than a value may be when these are added to it.

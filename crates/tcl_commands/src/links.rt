@@ -7,7 +7,7 @@ ghost use Rattle.tcl_language.specs.Instructions.{look};
 ghost use Rattle.tcl_run.specs.Plain.{Acts};
 ghost use Rattle.tcl_run.specs.Runs.{IsLevel};
 ghost use Rattle.tcl_tree.specs.TreeOf.{marks_of, Names};
-ghost use Rattle.tcl_variables.specs.Names.{name_of};
+ghost use Rattle.tcl_frames.specs.Names.{name_of};
 ghost use Rattle.tcl_commands.specs.Steps.{Steps, Finds};
 
 use crate::answers::is_odd;
@@ -19,7 +19,7 @@ use tcl_run::levels::{MOST_LEVELS, level_of};
 use tcl_text::text::Text;
 use tcl_tree::tree::{Place, Tree};
 use tcl_value::value::Value;
-use tcl_variables::name::read_name;
+use tcl_frames::name::read_name;
 
 /// The level that a word names.
 fn level(tree: &Tree, alloc: Global, place: Place, word: &str) -> Result<usize, Interruption>

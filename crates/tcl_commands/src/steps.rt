@@ -24,7 +24,7 @@ use tcl_text::integer::{IntegerFault, Integers, not_integer_message, too_large_m
 use tcl_text::text::Text;
 use tcl_tree::tree::{Place, Tree};
 use tcl_value::value::Value;
-use tcl_variables::fault::{FrameError, FrameFault};
+use tcl_frames::fault::{FrameError, FrameFault};
 
 /// The frames of the interpreter that the place names.
 pub(crate) fn frames_seen(tree: &Tree, place: Place) -> &Frames

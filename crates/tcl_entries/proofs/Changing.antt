@@ -16,7 +16,7 @@ use Rattle.tcl_interpreter.specs.declared.command.Command.{Command}
 use Rattle.tcl_interpreter.specs.declared.command.Command.TheVariants as command
 use Rattle.tcl_interpreter.specs.declared.refusal.TreeError.{TreeError}
 use Rattle.tcl_interpreter.specs.declared.refusal.TreeError.TheVariants as refusal
-use Rattle.tcl_variables.specs.Names.{colons_after, has_colons, after_colons}
+use Rattle.tcl_frames.specs.Names.{colons_after, has_colons, after_colons}
 use Rattle.tcl_entries.specs.Naming.{hiding_text}
 
 -- ## Colons

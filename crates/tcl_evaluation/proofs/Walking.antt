@@ -24,7 +24,7 @@ use Rattle.tcl_run.specs.Runs.{Counts, Proceeds, RefusesStep, Ways}
 use Rattle.tcl_run.proofs.Proceeding.{at_prog, at_reply, at_start, changes, charges, charge_refused, completed, does_proceeds, goes_done, looks, reads_on, stopped}
 use Rattle.tcl_text.specs.declared.integer.Integers.{Integers}
 use Rattle.tcl_tree.specs.Own.{Own}
-use Rattle.tcl_variables.specs.declared.fault.FrameFault.{FrameFault}
+use Rattle.tcl_frames.specs.declared.fault.FrameFault.{FrameFault}
 use Rattle.tcl_calls.specs.Walks.{whole, walk_at, walks_at, IsLoop, IsNoLoop, MisreadsWalks, ReadsDictLoop, ReadsWalks}
 use Rattle.tcl_calls.specs.declared.walks.Walk as read
 use Rattle.tcl_evaluation.proofs.Conditions.{ends_by}

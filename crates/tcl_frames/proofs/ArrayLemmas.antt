@@ -3,11 +3,11 @@ use Rattle.std.proofs.Common.{◌≡◌, ℕ, suc, ◌+◌, ◌≤◌, Bool, tru
 use Rattle.std.specs.Borrow.{Bor}
 use Rattle.std.specs.Map.{keys_of}
 use Rattle.std.specs.Option.{option_copied}
-use Rattle.tcl_variables.specs.Names.{Text}
-use Rattle.tcl_variables.specs.Arrays.{Elements, is_taken, taken}
-use Rattle.tcl_variables.specs.Faults.{Refuses}
-use Rattle.tcl_variables.specs.declared.fault.FrameError.{FrameError}
-use Rattle.tcl_variables.specs.declared.fault.FrameFault.{FrameFault}
+use Rattle.tcl_frames.specs.Names.{Text}
+use Rattle.tcl_frames.specs.VariableArrays.{Elements, is_taken, taken}
+use Rattle.tcl_frames.specs.Faults.{Refuses}
+use Rattle.tcl_frames.specs.declared.fault.FrameError.{FrameError}
+use Rattle.tcl_frames.specs.declared.fault.FrameFault.{FrameFault}
 use Rattle.tcl_text.proofs.Items.{drop_at}
 use Rattle.tcl_frames.specs.Arrays.{of_elements, is_found, element_if}
 use Rattle.tcl_frames.specs.Chain.{kept_if}

@@ -7,16 +7,16 @@ use Rattle.std.proofs.lemmas.Bool.Decides.{nat_tests}
 use Rattle.std.proofs.lemmas.List.{reverse-append}
 use Rattle.std.specs.List.{IsDistinct}
 use Rattle.std.specs.Str.{bytes_eq}
-use Rattle.tcl_variables.specs.Names.{Text}
-use Rattle.tcl_variables.specs.Variables.{Frame, Variables}
+use Rattle.tcl_frames.specs.Names.{Text}
+use Rattle.tcl_frames.specs.Variables.{Frame, Variables}
 use Rattle.tcl_frames.specs.Places.{Levels, links_in}
 use Rattle.tcl_frames.specs.Chain.{Aside, Chain, fresh, least, popped, set_aside, put_back, brought_back, with_frames, words_in, words_at}
 use Rattle.tcl_frames.specs.Sound.{hop, IsFit, AreFit, AreAside, IsSound, HasRoom}
-use Rattle.tcl_variables.specs.declared.fault.FrameFault.{FrameFault}
-use Rattle.tcl_variables.specs.declared.fault.FrameFault.TheVariants.{BadLevel}
-use Rattle.tcl_variables.specs.declared.fault.FrameError.{FrameError}
-use Rattle.tcl_variables.specs.declared.fault.FrameError.TheVariants.{Fault}
-use Rattle.tcl_variables.specs.Faults.{Refuses}
+use Rattle.tcl_frames.specs.declared.fault.FrameFault.{FrameFault}
+use Rattle.tcl_frames.specs.declared.fault.FrameFault.TheVariants.{BadLevel}
+use Rattle.tcl_frames.specs.declared.fault.FrameError.{FrameError}
+use Rattle.tcl_frames.specs.declared.fault.FrameError.TheVariants.{Fault}
+use Rattle.tcl_frames.specs.Faults.{Refuses}
 use Rattle.tcl_frames.proofs.WalkLemmas.{ends_at}
 use Rattle.tcl_frames.proofs.ListLemmas.{within_none, at_true, at_false}
 use Rattle.tcl_frames.proofs.SoundLemmas.{fit_nil, fit_cons, fit_head, fit_tail}

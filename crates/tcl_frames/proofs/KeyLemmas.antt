@@ -1,18 +1,18 @@
 -- Changes of an element by its key.
 use Rattle.std.proofs.Common.{◌≡◌, ℕ, Some, None, Ok, refl, sym, ◌∙◌, ap, subst}
-use Rattle.tcl_variables.specs.Names.{Text, Name, name_of}
-use Rattle.tcl_variables.specs.Variables.{Part, merge, part_of}
-use Rattle.tcl_variables.specs.Variables.Part.{whole, element, nested}
-use Rattle.tcl_variables.specs.Faults.{Refuses, IsRefusal}
-use Rattle.tcl_variables.specs.declared.frame.Change.{Change}
-use Rattle.tcl_variables.specs.declared.frame.Change.TheVariants.{Assign, SetElements, Unset, UnsetElements}
-use Rattle.tcl_variables.specs.declared.fault.FrameError.{FrameError}
-use Rattle.tcl_variables.specs.declared.fault.FrameFault.TheVariants.{BadName}
+use Rattle.tcl_frames.specs.Names.{Text, Name, name_of}
+use Rattle.tcl_frames.specs.Variables.{Part, merge, part_of}
+use Rattle.tcl_frames.specs.Variables.Part.{whole, element, nested}
+use Rattle.tcl_frames.specs.Faults.{Refuses, IsRefusal}
+use Rattle.tcl_frames.specs.declared.frame.Change.{Change}
+use Rattle.tcl_frames.specs.declared.frame.Change.TheVariants.{Assign, SetElements, Unset, UnsetElements}
+use Rattle.tcl_frames.specs.declared.fault.FrameError.{FrameError}
+use Rattle.tcl_frames.specs.declared.fault.FrameFault.TheVariants.{BadName}
 use Rattle.tcl_frames.specs.Places.{Levels, Spot, current, level_of, bound, end_of}
 use Rattle.tcl_frames.specs.Chain.{place_named, by_place}
 use Rattle.tcl_frames.specs.Changes.{change_levels}
-use Rattle.tcl_variables.specs.Access.{elements_of}
-use Rattle.tcl_variables.specs.Arrays.{element_name}
+use Rattle.tcl_frames.specs.Access.{elements_of}
+use Rattle.tcl_frames.specs.VariableArrays.{element_name}
 use Rattle.tcl_frames.specs.Keys.{change_key}
 use Rattle.tcl_frames.specs.Reached.{start, over}
 use Rattle.tcl_frames.specs.Sound.{AreFit}

@@ -4,11 +4,11 @@ use Rattle.std.specs.Prelude.{OnErr}
 use Rattle.std.proofs.Math.ListN.{length-set}
 use Rattle.std.specs.Map.{lookup}
 use Rattle.std.specs.Str.{bytes_eq}
-use Rattle.tcl_variables.specs.Names.{Text}
-use Rattle.tcl_variables.specs.Variables.{Frame, Part}
-use Rattle.tcl_variables.specs.Access.{assigned}
-use Rattle.tcl_variables.specs.Rebinding.{rebound}
-use Rattle.tcl_variables.specs.declared.frame.Change.TheVariants.{Assign}
+use Rattle.tcl_frames.specs.Names.{Text}
+use Rattle.tcl_frames.specs.Variables.{Frame, Part}
+use Rattle.tcl_frames.specs.Access.{assigned}
+use Rattle.tcl_frames.specs.Rebinding.{rebound}
+use Rattle.tcl_frames.specs.declared.frame.Change.TheVariants.{Assign}
 use Rattle.tcl_frames.specs.Places.{Levels, bound}
 use Rattle.tcl_frames.specs.Chain.{Aside, Chain, with_frames}
 use Rattle.tcl_frames.specs.Changes.{change_levels}

@@ -11,3 +11,9 @@ pub mod KeyLemmas
 pub mod SameChains
 pub mod ArrayLemmas
 pub mod NearLemmas
+pub mod EntryLemmas
+pub mod FewLemmas
+pub mod NameLemmas
+pub mod FrameLemmas
+pub mod VariableLends
+pub mod SameLemmas

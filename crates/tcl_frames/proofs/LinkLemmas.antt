@@ -4,22 +4,22 @@ use Rattle.std.specs.Prelude.{nat_le}
 use Rattle.std.proofs.lemmas.Bool.Decides.{nat_tests}
 use Rattle.std.specs.Str.{bytes_eq}
 use Rattle.indexmap.specs.IndexMap.{insert_entry}
-use Rattle.tcl_variables.specs.Names.{Text, Name, name_of, is_plain}
-use Rattle.tcl_variables.specs.Variables.{Frame, Part, merge, part_of}
+use Rattle.tcl_frames.specs.Names.{Text, Name, name_of, is_plain}
+use Rattle.tcl_frames.specs.Variables.{Frame, Part, merge, part_of}
 use Rattle.tcl_frames.specs.Places.{Levels, Spot, current, level_of, spot_of, bound, under, end_of, is_at}
-use Rattle.tcl_variables.specs.Variables.Part.{whole, element, nested}
+use Rattle.tcl_frames.specs.Variables.Part.{whole, element, nested}
 use Rattle.tcl_frames.specs.Chain.{bind, link_over, link_to_end, link_from, link_by_name, linked}
 use Rattle.tcl_frames.specs.Reached.{start, over, may_link}
-use Rattle.tcl_variables.specs.Rebinding.{with_variable}
-use Rattle.tcl_variables.specs.Faults.{Refuses}
-use Rattle.tcl_variables.specs.declared.fault.FrameError.TheVariants.{Fault}
+use Rattle.tcl_frames.specs.Rebinding.{with_variable}
+use Rattle.tcl_frames.specs.Faults.{Refuses}
+use Rattle.tcl_frames.specs.declared.fault.FrameError.TheVariants.{Fault}
 use Rattle.tcl_frames.specs.Sound.{AreFit}
-use Rattle.tcl_variables.specs.declared.variable.LinkTarget.{LinkTarget}
-use Rattle.tcl_variables.specs.declared.variable.Variable.{Variable}
-use Rattle.tcl_variables.specs.declared.variable.Variable.TheVariants.{Scalar, Array, Link}
-use Rattle.tcl_variables.specs.declared.fault.Verb.TheVariants.{Read}
-use Rattle.tcl_variables.specs.declared.fault.FrameFault.{FrameFault}
-use Rattle.tcl_variables.specs.declared.fault.FrameFault.TheVariants.{NotArray, BadLevel, Exists, Itself, BadName}
+use Rattle.tcl_frames.specs.declared.variable.LinkTarget.{LinkTarget}
+use Rattle.tcl_frames.specs.declared.variable.Variable.{Variable}
+use Rattle.tcl_frames.specs.declared.variable.Variable.TheVariants.{Scalar, Array, Link}
+use Rattle.tcl_frames.specs.declared.fault.Verb.TheVariants.{Read}
+use Rattle.tcl_frames.specs.declared.fault.FrameFault.{FrameFault}
+use Rattle.tcl_frames.specs.declared.fault.FrameFault.TheVariants.{NotArray, BadLevel, Exists, Itself, BadName}
 use Rattle.tcl_frames.proofs.SoundLemmas.{IsNoLink, IsFree, end_no_link, fit_linked, bound_at}
 use Rattle.tcl_frames.proofs.StepLemmas.{link_level, fit_level, end_low, level_low}
 

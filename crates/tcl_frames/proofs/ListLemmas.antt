@@ -6,13 +6,13 @@ use Rattle.std.specs.Map.{lookup, remove_entry, keys_of}
 use Rattle.std.specs.Str.{bytes_eq}
 use Rattle.std.proofs.lemmas.Map.{lookup-remove_entry}
 use Rattle.indexmap.specs.IndexMap.{insert_entry}
-use Rattle.tcl_variables.specs.Names.{Text}
-use Rattle.tcl_variables.specs.Variables.{Variables}
+use Rattle.tcl_frames.specs.Names.{Text}
+use Rattle.tcl_frames.specs.Variables.{Variables}
 use Rattle.tcl_frames.specs.Places.{plus_link, links_in}
 use Rattle.tcl_frames.specs.Sound.{IsWithin, AreWithin}
-use Rattle.tcl_variables.specs.declared.variable.Variable.{Variable}
-use Rattle.tcl_variables.specs.declared.variable.Variable.TheVariants.{Scalar, Array, Link}
-use Rattle.tcl_variables.proofs.EntryLemmas.{same_bytes}
+use Rattle.tcl_frames.specs.declared.variable.Variable.{Variable}
+use Rattle.tcl_frames.specs.declared.variable.Variable.TheVariants.{Scalar, Array, Link}
+use Rattle.tcl_frames.proofs.EntryLemmas.{same_bytes}
 use Rattle.tcl_frames.proofs.WalkLemmas.{test_of}
 
 pub bytes_same : (x y : Text) → x ≡ y → bytes_eq x y ≡ true

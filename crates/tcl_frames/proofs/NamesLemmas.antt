@@ -1,13 +1,13 @@
 -- Listing names.
 use Rattle.std.proofs.Common.{◌≡◌, ℕ, zero, suc, pred, ◌+◌, ◌-◌, ◌<◌, ◌≤◌, ◌==◌, Bool, true, false, cond, List, [], ◌∷◌, ◌++◌, length, drop, slice_get, Some, None, refl, sym, ◌∙◌, ap, arith, append_assoc, append-nil}
 use Rattle.std.proofs.lemmas.Bool.Decides.{nat_tests}
-use Rattle.tcl_variables.specs.Names.{Text}
-use Rattle.tcl_variables.specs.Variables.{Frame, Variables}
+use Rattle.tcl_frames.specs.Names.{Text}
+use Rattle.tcl_frames.specs.Variables.{Frame, Variables}
 use Rattle.tcl_text.proofs.Items.{drop_at}
 use Rattle.tcl_frames.specs.Places.{Levels, current, end_of}
 use Rattle.tcl_frames.specs.Chain.{holds, kept_if, names_held, names_own, is_own, variables_at, names_of}
 use Rattle.tcl_frames.specs.Reached.{start}
-use Rattle.tcl_variables.specs.declared.variable.Variable.{Variable}
+use Rattle.tcl_frames.specs.declared.variable.Variable.{Variable}
 use Rattle.tcl_frames.specs.declared.scope.Scope.TheVariants.{Visible, Global, Local}
 
 pub kept_append : (b : Bool) (x : Text) (xs : List Text) → kept_if b x xs ≡ kept_if b x [] ++ xs

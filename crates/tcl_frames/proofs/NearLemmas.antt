@@ -5,14 +5,14 @@ use Rattle.std.specs.Borrow.{Bor}
 use Rattle.std.specs.declared.alloc.AllocError.{AllocError}
 use Rattle.std.specs.Map.{lookup}
 use Rattle.std.specs.Str.{bytes_eq}
-use Rattle.tcl_variables.specs.Names.{Text, is_simple}
-use Rattle.tcl_variables.specs.Variables.{Frame}
-use Rattle.tcl_variables.specs.Variables.Part.{whole}
-use Rattle.tcl_variables.specs.Access.{assigned, value_of}
-use Rattle.tcl_variables.specs.Rebinding.{rebound, with_variable}
-use Rattle.tcl_variables.specs.declared.variable.Variable.TheVariants.{Scalar}
-use Rattle.tcl_variables.specs.declared.frame.Change.TheVariants.{Assign}
-use Rattle.tcl_variables.proofs.NameLemmas.{simple_name}
+use Rattle.tcl_frames.specs.Names.{Text, is_simple}
+use Rattle.tcl_frames.specs.Variables.{Frame}
+use Rattle.tcl_frames.specs.Variables.Part.{whole}
+use Rattle.tcl_frames.specs.Access.{assigned, value_of}
+use Rattle.tcl_frames.specs.Rebinding.{rebound, with_variable}
+use Rattle.tcl_frames.specs.declared.variable.Variable.TheVariants.{Scalar}
+use Rattle.tcl_frames.specs.declared.frame.Change.TheVariants.{Assign}
+use Rattle.tcl_frames.proofs.NameLemmas.{simple_name}
 use Rattle.tcl_frames.specs.Places.{Levels, Spot, current, bound, end_of}
 use Rattle.tcl_frames.specs.Chain.{Aside, Chain, read, written, after_set}
 use Rattle.tcl_frames.specs.Changes.{change_levels}

@@ -5,14 +5,14 @@ use Rattle.std.proofs.lemmas.Option.{slice_get_read}
 use Rattle.std.specs.Option.{option_map}
 use Rattle.std.specs.Map.{lookup}
 use Rattle.std.specs.Str.{bytes_eq}
-use Rattle.tcl_variables.specs.Names.{Text}
-use Rattle.tcl_variables.specs.Variables.{Frame, Part}
+use Rattle.tcl_frames.specs.Names.{Text}
+use Rattle.tcl_frames.specs.Variables.{Frame, Part}
 use Rattle.tcl_frames.specs.Places.{Levels, Spot, bound, bound_in, through, under, next, links, end_of}
 use Rattle.tcl_frames.specs.Reached.{link_of}
 use Rattle.tcl_frames.specs.Sound.{AreFit}
-use Rattle.tcl_variables.specs.declared.variable.LinkTarget.{LinkTarget}
-use Rattle.tcl_variables.specs.declared.variable.Variable.{Variable}
-use Rattle.tcl_variables.specs.declared.variable.Variable.TheVariants.{Scalar, Array, Link}
+use Rattle.tcl_frames.specs.declared.variable.LinkTarget.{LinkTarget}
+use Rattle.tcl_frames.specs.declared.variable.Variable.{Variable}
+use Rattle.tcl_frames.specs.declared.variable.Variable.TheVariants.{Scalar, Array, Link}
 use Rattle.tcl_frames.proofs.SoundLemmas.{links_end, end_onward, end_here}
 use Rattle.tcl_frames.proofs.WalkLemmas.{hops, hops_fall}
 

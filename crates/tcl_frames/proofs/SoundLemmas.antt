@@ -5,14 +5,14 @@ use Rattle.std.specs.List.{IsDistinct}
 use Rattle.std.specs.Map.{lookup, remove_entry, keys_of}
 use Rattle.std.specs.Str.{bytes_eq}
 use Rattle.indexmap.specs.IndexMap.{insert_entry}
-use Rattle.tcl_variables.specs.Names.{Text}
-use Rattle.tcl_variables.specs.Variables.{Frame, Variables, Part, merge, part_of}
+use Rattle.tcl_frames.specs.Names.{Text}
+use Rattle.tcl_frames.specs.Variables.{Frame, Variables, Part, merge, part_of}
 use Rattle.tcl_frames.specs.Places.{Levels, Spot, bound, bound_in, through, under, next, walk, links_in, links, end_of}
 use Rattle.tcl_frames.specs.Sound.{IsWithin, AreWithin, hop_to, hop_by, hop, Ends, IsFit, AreFit}
-use Rattle.tcl_variables.specs.declared.variable.LinkTarget.{LinkTarget}
-use Rattle.tcl_variables.specs.declared.variable.Variable.{Variable}
-use Rattle.tcl_variables.specs.declared.variable.Variable.TheVariants.{Scalar, Array, Link}
-use Rattle.tcl_variables.proofs.EntryLemmas.{same_bytes}
+use Rattle.tcl_frames.specs.declared.variable.LinkTarget.{LinkTarget}
+use Rattle.tcl_frames.specs.declared.variable.Variable.{Variable}
+use Rattle.tcl_frames.specs.declared.variable.Variable.TheVariants.{Scalar, Array, Link}
+use Rattle.tcl_frames.proofs.EntryLemmas.{same_bytes}
 use Rattle.tcl_frames.proofs.ListLemmas.{link_at, links_inserted, links_removed, lookup_inserted, lookup_apart, lookup_removed, unique_inserted, unique_removed, within_inserted, within_removed, within_found, bytes_flip, at_true, at_false}
 use Rattle.tcl_frames.proofs.WalkLemmas.{test_of, walk_on, walk_none, ends_at, ends_step, ends_back, ends_not_zero, ends_more, ends_add, ends_same, ends_fresh, ends_again}
 

@@ -8,29 +8,29 @@ use Rattle.std.specs.Option.{option_map, option_copied}
 use Rattle.std.specs.Map.{lookup, remove_entry}
 use Rattle.std.specs.Str.{bytes_eq}
 use Rattle.indexmap.specs.IndexMap.{insert_entry, insert_all}
-use Rattle.tcl_variables.specs.Names.{Text, Name, name_of}
-use Rattle.tcl_variables.specs.Variables.{Frame, Variables, Part, merge, part_of}
+use Rattle.tcl_frames.specs.Names.{Text, Name, name_of}
+use Rattle.tcl_frames.specs.Variables.{Frame, Variables, Part, merge, part_of}
 use Rattle.tcl_frames.specs.Places.{Levels, Spot, current, level_of, spot_of, bound, through, under, next, walk, links, end_of}
-use Rattle.tcl_variables.specs.Variables.Part.{whole, element, nested}
-use Rattle.tcl_variables.specs.Access.{value_of, is_held, is_linked, elements_of, assigned, left_of, without_element}
-use Rattle.tcl_variables.specs.Arrays.{Elements, extended, unmatched}
+use Rattle.tcl_frames.specs.Variables.Part.{whole, element, nested}
+use Rattle.tcl_frames.specs.Access.{value_of, is_held, is_linked, elements_of, assigned, left_of, without_element}
+use Rattle.tcl_frames.specs.VariableArrays.{Elements, extended, unmatched}
 use Rattle.tcl_frames.specs.Arrays.{elements_set, emptied_at, elements_unset}
 use Rattle.tcl_frames.specs.Chain.{holds, read, exists_at, array_at, end_named, place_named, by_place, at_name, on_level, bind, unbind, bound_to, left_at, written, made_array, removed}
-use Rattle.tcl_variables.specs.Faults.{Refuses, IsRefusal}
+use Rattle.tcl_frames.specs.Faults.{Refuses, IsRefusal}
 use Rattle.tcl_frames.specs.Reached.{start, over, bound_where, link_of, Stands}
-use Rattle.tcl_variables.specs.Written.{seen}
-use Rattle.tcl_variables.specs.declared.name.Written.{Written}
-use Rattle.tcl_variables.specs.declared.frame.Change.{Change}
-use Rattle.tcl_variables.specs.declared.frame.Change.TheVariants.{Assign, SetElements, Unset, UnsetElements}
-use Rattle.tcl_variables.specs.Rebinding.{rebound, unbound, with_variable, without_variable, emptied, change_frame}
+use Rattle.tcl_frames.specs.Written.{seen}
+use Rattle.tcl_frames.specs.declared.name.Written.{Written}
+use Rattle.tcl_frames.specs.declared.frame.Change.{Change}
+use Rattle.tcl_frames.specs.declared.frame.Change.TheVariants.{Assign, SetElements, Unset, UnsetElements}
+use Rattle.tcl_frames.specs.Rebinding.{rebound, unbound, with_variable, without_variable, emptied, change_frame}
 use Rattle.tcl_frames.specs.Changes.{change_levels, change_named, IsChangedThere}
 use Rattle.tcl_frames.specs.Sound.{IsFit, AreFit}
-use Rattle.tcl_variables.specs.declared.variable.LinkTarget.{LinkTarget}
-use Rattle.tcl_variables.specs.declared.variable.Variable.{Variable}
-use Rattle.tcl_variables.specs.declared.variable.Variable.TheVariants.{Scalar, Array, Link}
-use Rattle.tcl_variables.specs.declared.fault.FrameFault.{FrameFault}
-use Rattle.tcl_variables.specs.declared.fault.FrameFault.TheVariants.{BadName}
-use Rattle.tcl_variables.specs.declared.fault.FrameError.{FrameError}
+use Rattle.tcl_frames.specs.declared.variable.LinkTarget.{LinkTarget}
+use Rattle.tcl_frames.specs.declared.variable.Variable.{Variable}
+use Rattle.tcl_frames.specs.declared.variable.Variable.TheVariants.{Scalar, Array, Link}
+use Rattle.tcl_frames.specs.declared.fault.FrameFault.{FrameFault}
+use Rattle.tcl_frames.specs.declared.fault.FrameFault.TheVariants.{BadName}
+use Rattle.tcl_frames.specs.declared.fault.FrameError.{FrameError}
 use Rattle.tcl_frames.proofs.WalkLemmas.{step_of, walk_some, walk_none, walk_zero}
 use Rattle.tcl_frames.proofs.SoundLemmas.{IsNoLink, fit_at, fit_cons, fit_head, fit_tail, fit_valued, fit_removed, end_no_link, get_cases, bound_at, bound_past}
 use Rattle.tcl_frames.proofs.ListLemmas.{within_found}

@@ -1,11 +1,11 @@
 -- What calls on whole arrays do to a chain, and what they answer.
 use Rattle.std.specs.Prelude.{Bool, true, false, [], ◌∷◌, Option, Some, None, is_some, Result, Ok}
 use Rattle.std.specs.Prelude.{Err}
-use Rattle.tcl_variables.specs.Names.{Text}
-use Rattle.tcl_variables.specs.Access.{elements_of}
-use Rattle.tcl_variables.specs.Arrays.{Elements, extended, unmatched}
-use Rattle.tcl_variables.specs.declared.variable.Variable.TheVariants.{Array}
-use Rattle.tcl_variables.specs.declared.fault.FrameFault.{FrameFault}
+use Rattle.tcl_frames.specs.Names.{Text}
+use Rattle.tcl_frames.specs.Access.{elements_of}
+use Rattle.tcl_frames.specs.VariableArrays.{Elements, extended, unmatched}
+use Rattle.tcl_frames.specs.declared.variable.Variable.TheVariants.{Array}
+use Rattle.tcl_frames.specs.declared.fault.FrameFault.{FrameFault}
 use Rattle.tcl_frames.specs.Places.{Levels, Spot, bound}
 use Rattle.tcl_frames.specs.Chain.{Chain, at_name, bind, unbind, bound_to, with_frames}
 

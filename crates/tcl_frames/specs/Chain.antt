@@ -5,21 +5,21 @@ use Rattle.std.specs.Prelude.{if◌then◌else◌, Result, Ok, Err}
 use Rattle.std.specs.Str.{bytes_eq}
 use Rattle.std.specs.Map.{remove_entry}
 use Rattle.indexmap.specs.IndexMap.{insert_entry}
-use Rattle.tcl_variables.specs.Names.{Text, Name, name_of, is_plain}
-use Rattle.tcl_variables.specs.Variables.{Frame, Part, Variables}
-use Rattle.tcl_variables.specs.Access.{value_of, is_held, elements_of, assigned, left_of}
-use Rattle.tcl_variables.specs.Arrays.{extended}
+use Rattle.tcl_frames.specs.Names.{Text, Name, name_of, is_plain}
+use Rattle.tcl_frames.specs.Variables.{Frame, Part, Variables}
+use Rattle.tcl_frames.specs.Access.{value_of, is_held, elements_of, assigned, left_of}
+use Rattle.tcl_frames.specs.VariableArrays.{extended}
 use Rattle.tcl_frames.specs.Places.{Spot, Levels, current, bound, spot_of, end_of, is_at}
-use Rattle.tcl_variables.specs.Variables.Part.{whole, element, nested}
-use Rattle.tcl_variables.specs.declared.variable.LinkTarget.{LinkTarget}
-use Rattle.tcl_variables.specs.declared.variable.Variable.{Variable}
-use Rattle.tcl_variables.specs.declared.variable.Variable.TheVariants.{Scalar, Array, Link}
+use Rattle.tcl_frames.specs.Variables.Part.{whole, element, nested}
+use Rattle.tcl_frames.specs.declared.variable.LinkTarget.{LinkTarget}
+use Rattle.tcl_frames.specs.declared.variable.Variable.{Variable}
+use Rattle.tcl_frames.specs.declared.variable.Variable.TheVariants.{Scalar, Array, Link}
 use Rattle.tcl_frames.specs.declared.scope.Scope.{Scope}
 use Rattle.tcl_frames.specs.declared.scope.Scope.TheVariants.{Visible, Global, Local}
-use Rattle.tcl_variables.specs.declared.fault.Verb.TheVariants.{Read}
-use Rattle.tcl_variables.specs.declared.fault.FrameFault.{FrameFault}
-use Rattle.tcl_variables.specs.declared.fault.FrameFault.TheVariants.{NotArray, BadLevel, Exists}
-use Rattle.tcl_variables.specs.declared.fault.FrameFault.TheVariants.{Itself, BadName}
+use Rattle.tcl_frames.specs.declared.fault.Verb.TheVariants.{Read}
+use Rattle.tcl_frames.specs.declared.fault.FrameFault.{FrameFault}
+use Rattle.tcl_frames.specs.declared.fault.FrameFault.TheVariants.{NotArray, BadLevel, Exists}
+use Rattle.tcl_frames.specs.declared.fault.FrameFault.TheVariants.{Itself, BadName}
 
 -- Frames that were set aside: those that stood above a level.
 pub record Aside : Type 0 where

@@ -1,16 +1,16 @@
 -- What a change of one name does to the frames.
 use Rattle.std.specs.Prelude.{◌≡◌, Result, Ok, None}
-use Rattle.tcl_variables.specs.Names.{Text}
+use Rattle.tcl_frames.specs.Names.{Text}
 use Rattle.tcl_frames.specs.Places.{Levels, Spot, bound}
 use Rattle.tcl_frames.specs.Reached.{link_of}
 use Rattle.tcl_frames.specs.Chain.{at_name, bound_to, left_at}
 use Rattle.tcl_frames.specs.Arrays.{emptied_at}
-use Rattle.tcl_variables.specs.Access.{assigned, left_of, elements_of}
-use Rattle.tcl_variables.specs.Arrays.{extended}
-use Rattle.tcl_variables.specs.declared.frame.Change.{Change}
-use Rattle.tcl_variables.specs.declared.frame.Change.TheVariants.{Assign, SetElements, Unset}
-use Rattle.tcl_variables.specs.declared.frame.Change.TheVariants.{UnsetElements}
-use Rattle.tcl_variables.specs.declared.fault.FrameFault.{FrameFault}
+use Rattle.tcl_frames.specs.Access.{assigned, left_of, elements_of}
+use Rattle.tcl_frames.specs.VariableArrays.{extended}
+use Rattle.tcl_frames.specs.declared.frame.Change.{Change}
+use Rattle.tcl_frames.specs.declared.frame.Change.TheVariants.{Assign, SetElements, Unset}
+use Rattle.tcl_frames.specs.declared.frame.Change.TheVariants.{UnsetElements}
+use Rattle.tcl_frames.specs.declared.fault.FrameFault.{FrameFault}
 
 -- the frames after what a name stands for at a spot is changed
 abbrev pub change_levels : Change → Levels → Spot → Text → Result Levels FrameFault

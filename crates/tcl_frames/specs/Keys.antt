@@ -1,11 +1,11 @@
 -- The elements of the array that a name is, each by its key.
 use Rattle.std.specs.Prelude.{Result}
-use Rattle.tcl_variables.specs.Names.{Text}
-use Rattle.tcl_variables.specs.Arrays.{element_name}
-use Rattle.tcl_variables.specs.Variables.Part.{element}
-use Rattle.tcl_variables.specs.declared.frame.Change.{Change}
-use Rattle.tcl_variables.specs.declared.frame.Change.TheVariants.{Assign, Unset}
-use Rattle.tcl_variables.specs.declared.fault.FrameFault.{FrameFault}
+use Rattle.tcl_frames.specs.Names.{Text}
+use Rattle.tcl_frames.specs.VariableArrays.{element_name}
+use Rattle.tcl_frames.specs.Variables.Part.{element}
+use Rattle.tcl_frames.specs.declared.frame.Change.{Change}
+use Rattle.tcl_frames.specs.declared.frame.Change.TheVariants.{Assign, Unset}
+use Rattle.tcl_frames.specs.declared.fault.FrameFault.{FrameFault}
 use Rattle.tcl_frames.specs.Places.{Levels}
 use Rattle.tcl_frames.specs.Chain.{Chain, at_name, with_frames}
 use Rattle.tcl_frames.specs.Changes.{change_levels}

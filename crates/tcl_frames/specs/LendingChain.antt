@@ -1,10 +1,10 @@
 -- What is lent out of a chain.
 use Rattle.std.specs.Prelude.{◌≡◌, ℕ, Option, Result, Ok, OnSome}
 use Rattle.std.specs.Borrow.{LendsSo, LendsSoOk, MutBor, Fml}
-use Rattle.tcl_variables.specs.Names.{Text}
-use Rattle.tcl_variables.specs.Variables.{Part, part_of}
-use Rattle.tcl_variables.specs.declared.frame.Change.TheVariants.{Assign}
-use Rattle.tcl_variables.specs.declared.fault.FrameError.{FrameError}
+use Rattle.tcl_frames.specs.Names.{Text}
+use Rattle.tcl_frames.specs.Variables.{Part, part_of}
+use Rattle.tcl_frames.specs.declared.frame.Change.TheVariants.{Assign}
+use Rattle.tcl_frames.specs.declared.fault.FrameError.{FrameError}
 use Rattle.tcl_frames.specs.Places.{end_of}
 use Rattle.tcl_frames.specs.Chain.{Chain, with_frames, after_set}
 use Rattle.tcl_frames.specs.Changes.{change_levels}

@@ -7,3 +7,16 @@ pub mod Sound
 pub mod Targets
 pub mod LendingChain
 pub mod Keys
+pub mod Entries
+pub mod Faults
+pub mod Kept
+pub mod Lending
+pub mod Parts
+pub mod Names
+pub mod Variables
+pub mod Access
+pub mod VariableArrays
+pub mod Rebinding
+pub mod Written
+pub mod Messages
+pub mod LendingParts

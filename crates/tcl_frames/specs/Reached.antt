@@ -1,14 +1,14 @@
 -- Where the code came to.
 use Rattle.std.specs.Prelude.{◌≡◌, ℕ, Bool, true, false, Option, Some, None}
-use Rattle.tcl_variables.specs.declared.variable.LinkTarget.{LinkTarget}
-use Rattle.tcl_variables.specs.declared.variable.Variable.{Variable}
-use Rattle.tcl_variables.specs.declared.variable.Variable.TheVariants.{Scalar, Array, Link}
-use Rattle.tcl_variables.specs.Names.{Text}
+use Rattle.tcl_frames.specs.declared.variable.LinkTarget.{LinkTarget}
+use Rattle.tcl_frames.specs.declared.variable.Variable.{Variable}
+use Rattle.tcl_frames.specs.declared.variable.Variable.TheVariants.{Scalar, Array, Link}
+use Rattle.tcl_frames.specs.Names.{Text}
 use Rattle.tcl_frames.specs.Places.{Spot, Levels, bound}
-use Rattle.tcl_variables.specs.Variables.{Part, merge}
-use Rattle.tcl_variables.specs.Variables.Part.{whole}
+use Rattle.tcl_frames.specs.Variables.{Part, merge}
+use Rattle.tcl_frames.specs.Variables.Part.{whole}
 use Rattle.tcl_frames.specs.Chain.{place_named}
-use Rattle.tcl_variables.specs.Parts.{seen_part}
+use Rattle.tcl_frames.specs.Parts.{seen_part}
 use Rattle.tcl_frames.specs.declared.steps.Reached.{Reached}
 
 abbrev pub reached : Reached → Spot

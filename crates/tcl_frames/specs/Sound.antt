@@ -4,12 +4,12 @@ use Rattle.std.specs.Prelude.{Option, Some, None}
 use Rattle.std.specs.Str.{bytes_eq}
 use Rattle.std.specs.Map.{lookup, keys_of}
 use Rattle.std.specs.List.{IsDistinct}
-use Rattle.tcl_variables.specs.Names.{Text}
-use Rattle.tcl_variables.specs.Variables.{Frame, Variables}
+use Rattle.tcl_frames.specs.Names.{Text}
+use Rattle.tcl_frames.specs.Variables.{Frame, Variables}
 use Rattle.tcl_frames.specs.Places.{Levels, walk, links_in}
 use Rattle.tcl_frames.specs.Chain.{Aside, Chain}
-use Rattle.tcl_variables.specs.declared.variable.Variable.{Variable}
-use Rattle.tcl_variables.specs.declared.variable.Variable.TheVariants.{Scalar, Array, Link}
+use Rattle.tcl_frames.specs.declared.variable.Variable.{Variable}
+use Rattle.tcl_frames.specs.declared.variable.Variable.TheVariants.{Scalar, Array, Link}
 
 abbrev pub IsWithin : ℕ → Variable → Type 0
 IsWithin n (Scalar t) = Unit {0}

@@ -1,10 +1,10 @@
 -- Where a change goes, as the code keeps it.
 use Rattle.std.specs.Prelude.{Option, Some, None}
 use Rattle.tcl_frames.specs.Places.{Spot}
-use Rattle.tcl_variables.specs.Variables.{Part}
-use Rattle.tcl_variables.specs.Variables.Part.{whole, element, nested}
+use Rattle.tcl_frames.specs.Variables.{Part}
+use Rattle.tcl_frames.specs.Variables.Part.{whole, element, nested}
 use Rattle.tcl_frames.specs.Reached.{over}
-use Rattle.tcl_variables.specs.Parts.{seen_part}
+use Rattle.tcl_frames.specs.Parts.{seen_part}
 use Rattle.tcl_frames.specs.declared.steps.OwnedPart.{OwnedPart}
 use Rattle.tcl_frames.specs.declared.steps.OwnedPart.TheVariants.{Whole, Element, Nested}
 use Rattle.tcl_frames.specs.declared.steps.Target.{Target}

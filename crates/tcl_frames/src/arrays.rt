@@ -2,7 +2,7 @@
 ghost use Rattle.std.specs.Prelude.{◌≡◌, ◌<◌, ◌+◌, ◌++◌, length, drop, IfOk, OnOk};
 ghost use Rattle.std.specs.Map.{keys_of};
 ghost use Rattle.std.specs.Option.{option_copied};
-ghost use Rattle.tcl_variables.specs.Arrays.{is_taken, taken};
+ghost use Rattle.tcl_frames.specs.VariableArrays.{is_taken, taken};
 ghost use Rattle.tcl_frames.specs.Arrays.{element_if};
 
 use crate::names::push_if;
@@ -10,7 +10,7 @@ use std::alloc::{AllocError, Global};
 use tcl_glob::matches;
 use tcl_text::text::Text;
 use tcl_value::value::Value;
-use tcl_variables::name_map::NameMap;
+use crate::name_map::NameMap;
 
 /// Whether a pattern takes a key; where there is none, each is taken.
 fn is_taken(pattern: Option<&Text>, key: &str) -> bool

@@ -18,13 +18,13 @@ use std::alloc::{AllocError, Global};
 use std::marker::Model;
 use tcl_text::text::Text;
 use tcl_value::value::Value;
-use tcl_variables::access::Part;
-use tcl_variables::comparing::{Same, same_items};
-use tcl_variables::fault::{FrameError, FrameFault, NameFault, refused};
-use tcl_variables::frame::{Change, Frame};
-use tcl_variables::name::read_name;
-use tcl_variables::name_map::NameMap;
-use tcl_variables::variable::Variable;
+use crate::access::Part;
+use crate::comparing::{Same, same_items};
+use crate::fault::{FrameError, FrameFault, NameFault, refused};
+use crate::frame::{Change, Frame};
+use crate::name::read_name;
+use crate::name_map::NameMap;
+use crate::variable::Variable;
 
 /// The most frames that may stand where room is taken to keep that of one more.
 const MOST_SPARE: usize = 64;
@@ -170,13 +170,13 @@ impl Frames {
     ghost use Rattle.tcl_frames.specs.Chain.{after_array, after_unset, after_link, with_frames};
     ghost use Rattle.tcl_frames.specs.Chain.{names_of, words_at, pushed, popped, set_aside};
     ghost use Rattle.tcl_frames.specs.Chain.{brought_back};
-    ghost use Rattle.tcl_variables.specs.Faults.{Refuses};
+    ghost use Rattle.tcl_frames.specs.Faults.{Refuses};
     ghost use Rattle.tcl_frames.specs.Places.{current};
     ghost use Rattle.tcl_frames.specs.Changes.{change_named};
     ghost use Rattle.tcl_frames.specs.Keys.{change_key, after_set_key, after_unset_key};
     ghost use Rattle.tcl_frames.specs.Arrays.{after_set_elements, after_unset_elements};
     ghost use Rattle.tcl_frames.specs.Arrays.{of_elements, is_found};
-    ghost use Rattle.tcl_variables.specs.Arrays.{taken};
+    ghost use Rattle.tcl_frames.specs.VariableArrays.{taken};
     ghost use Rattle.std.specs.Map.{keys_of};
 
     /// A chain of the global frame alone, which has no words and no variables.
@@ -600,10 +600,10 @@ impl Frames {
 
 impl Frames {
     ghost use Rattle.std.specs.Borrow.{sem};
-    ghost use Rattle.tcl_variables.specs.Access.{value_of};
-    ghost use Rattle.tcl_variables.specs.Faults.{Refuses};
-    ghost use Rattle.tcl_variables.specs.Parts.{seen_part};
-    ghost use Rattle.tcl_variables.specs.Variables.{part_of};
+    ghost use Rattle.tcl_frames.specs.Access.{value_of};
+    ghost use Rattle.tcl_frames.specs.Faults.{Refuses};
+    ghost use Rattle.tcl_frames.specs.Parts.{seen_part};
+    ghost use Rattle.tcl_frames.specs.Variables.{part_of};
     ghost use Rattle.tcl_frames.specs.Chain.{read};
     ghost use Rattle.tcl_frames.specs.Places.{bound, end_of};
     ghost use Rattle.tcl_frames.specs.Reached.{start, over};

@@ -1,16 +1,16 @@
 //! The elements of the array that a name is, each by its key.
 ghost use Rattle.std.specs.Prelude.{◌≡◌, ◌<◌, Ok, length, IfOk, OnOk, IfErr, OnErr};
-ghost use Rattle.tcl_variables.specs.Faults.{Refuses};
+ghost use Rattle.tcl_frames.specs.Faults.{Refuses};
 ghost use Rattle.tcl_frames.specs.Keys.{change_key};
 ghost use Rattle.tcl_frames.specs.Sound.{AreFit};
 
 use crate::steps::{change_at, change_from, level_meant};
 use std::alloc::{AllocError, Global};
 use tcl_text::text::Text;
-use tcl_variables::access::Part;
-use tcl_variables::fault::{FrameError, NameFault, refused};
-use tcl_variables::frame::{Change, Frame};
-use tcl_variables::name::{element_text, read_name};
+use crate::access::Part;
+use crate::fault::{FrameError, NameFault, refused};
+use crate::frame::{Change, Frame};
+use crate::name::{element_text, read_name};
 
 /// Changes the element with a key, of what a name is.
 pub(crate) fn change_key_in(

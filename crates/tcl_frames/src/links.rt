@@ -2,21 +2,21 @@
 ghost use Rattle.std.specs.Prelude.{◌≡◌, ◌<◌, Ok, length, IfOk, OnOk, IfErr, OnErr, MatchOption};
 ghost use Rattle.std.specs.Option.{option_copied};
 ghost use Rattle.tcl_frames.specs.Chain.{link_over, linked};
-ghost use Rattle.tcl_variables.specs.Faults.{Refuses};
+ghost use Rattle.tcl_frames.specs.Faults.{Refuses};
 ghost use Rattle.tcl_frames.specs.Places.{bound, under, current, is_at};
 ghost use Rattle.tcl_frames.specs.Targets.{target_or};
-ghost use Rattle.tcl_variables.specs.Variables.{Part, part_of};
-ghost use Rattle.tcl_variables.specs.Variables.Part.{whole, nested};
+ghost use Rattle.tcl_frames.specs.Variables.{Part, part_of};
+ghost use Rattle.tcl_frames.specs.Variables.Part.{whole, nested};
 ghost use Rattle.tcl_frames.specs.Reached.{start, over, may_link};
 ghost use Rattle.tcl_frames.specs.Sound.{AreFit};
 
 use crate::steps::{Target, find_target, level_for, variable_at};
 use std::alloc::{AllocError, Global};
 use tcl_text::text::Text;
-use tcl_variables::fault::{FrameError, FrameFault, NameFault, Verb, refused};
-use tcl_variables::frame::Frame;
-use tcl_variables::name::{is_plain_name, read_name};
-use tcl_variables::variable::{LinkTarget, Variable};
+use crate::fault::{FrameError, FrameFault, NameFault, Verb, refused};
+use crate::frame::Frame;
+use crate::name::{is_plain_name, read_name};
+use crate::variable::{LinkTarget, Variable};
 
 /// Whether the links from a name at a level, which lead to this target, end at a local name or at
 /// an element of it. Where there is no target, they end where they begin.

@@ -10,10 +10,10 @@ ghost use Rattle.tcl_frames.specs.declared.scope.Scope.TheVariants.{Local};
 use crate::steps::find;
 use std::alloc::{AllocError, Global};
 use tcl_text::text::Text;
-use tcl_variables::access::holds_in;
-use tcl_variables::frame::Frame;
-use tcl_variables::name_map::NameMap;
-use tcl_variables::variable::Variable;
+use crate::access::holds_in;
+use crate::frame::Frame;
+use crate::name_map::NameMap;
+use crate::variable::Variable;
 
 /// Adds a name to its end, if it is wanted.
 pub(crate) fn push_if(

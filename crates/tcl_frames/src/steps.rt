@@ -3,26 +3,26 @@ ghost use Rattle.std.specs.Prelude.{◌≡◌, ◌<◌, Ok, Some, None, length, 
 ghost use Rattle.std.specs.Prelude.{OnOk, IfErr, OnErr};
 ghost use Rattle.std.specs.Option.{option_copied};
 ghost use Rattle.tcl_frames.specs.Chain.{read, exists_at, array_at, place_named};
-ghost use Rattle.tcl_variables.specs.Faults.{Refuses, IsRefusal};
+ghost use Rattle.tcl_frames.specs.Faults.{Refuses, IsRefusal};
 ghost use Rattle.tcl_frames.specs.Places.{bound, under, end_of, current, level_of};
-ghost use Rattle.tcl_variables.specs.Variables.{merge, part_of};
-ghost use Rattle.tcl_variables.specs.Variables.Part.{whole, element};
-ghost use Rattle.tcl_variables.specs.Parts.{seen_part};
+ghost use Rattle.tcl_frames.specs.Variables.{merge, part_of};
+ghost use Rattle.tcl_frames.specs.Variables.Part.{whole, element};
+ghost use Rattle.tcl_frames.specs.Parts.{seen_part};
 ghost use Rattle.tcl_frames.specs.Reached.{reached, link_of, start, over, bound_where, Stands};
 ghost use Rattle.tcl_frames.specs.Changes.{change_levels, change_named, IsChangedThere};
 ghost use Rattle.tcl_frames.specs.Targets.{owned_part, target_or, ended};
-ghost use Rattle.tcl_variables.specs.declared.fault.FrameFault.TheVariants.{BadName};
+ghost use Rattle.tcl_frames.specs.declared.fault.FrameFault.TheVariants.{BadName};
 ghost use Rattle.tcl_frames.specs.Sound.{AreFit};
 
 use std::alloc::{AllocError, Global};
 use tcl_text::text::Text;
 use tcl_value::value::Value;
-use tcl_variables::access::{Part, elements_in, holds_in, value_in};
-use tcl_variables::fault::{FrameError, NameFault, refused};
-use tcl_variables::frame::{Change, Frame};
-use tcl_variables::name::read_name;
-use tcl_variables::name_map::NameMap;
-use tcl_variables::variable::{LinkTarget, Variable};
+use crate::access::{Part, elements_in, holds_in, value_in};
+use crate::fault::{FrameError, NameFault, refused};
+use crate::frame::{Change, Frame};
+use crate::name::read_name;
+use crate::name_map::NameMap;
+use crate::variable::{LinkTarget, Variable};
 
 /// What a name stands for at a level.
 pub(crate) fn variable_at<'a>(frames: &'a [Frame], level: usize, name: &str) -> Option<&'a Variable>
@@ -284,7 +284,7 @@ pub(crate) struct Target {
 impl Target {
     ghost use Rattle.std.specs.Prelude.{MatchOption};
     ghost use Rattle.tcl_frames.specs.Places.{under};
-    ghost use Rattle.tcl_variables.specs.Variables.Part.{whole, nested};
+    ghost use Rattle.tcl_frames.specs.Variables.Part.{whole, nested};
     ghost use Rattle.tcl_frames.specs.Targets.{owned_part, target_spot};
 
     /// The place that it is, or none where it is an element of an element.

@@ -10,7 +10,7 @@ use crate::parameter::Parameter;
 use crate::procedure::Procedure;
 use indexmap::IndexMap;
 use tcl_text::text::Text;
-use tcl_variables::comparing::{Same, same_items};
+use tcl_frames::comparing::{Same, same_items};
 
 impl Same for Parameter {
     fn same(&self, other: &Parameter) -> bool {

@@ -81,10 +81,10 @@ use Rattle.tcl_interpreter.specs.declared.builtin.Builtin.TheVariants as name
 use Rattle.tcl_interpreter.specs.declared.command.Command.{Command}
 use Rattle.tcl_interpreter.specs.declared.command.Command.TheVariants as command
 use Rattle.tcl_interpreter.specs.declared.parameter.Parameter.{Parameter}
-use Rattle.tcl_variables.specs.Arrays.{taken}
-use Rattle.tcl_variables.specs.Names.{is_plain, name_of}
-use Rattle.tcl_variables.specs.declared.fault.FrameFault.{FrameFault}
-use Rattle.tcl_variables.specs.declared.fault.FrameFault.TheVariants as frame_fault
+use Rattle.tcl_frames.specs.VariableArrays.{taken}
+use Rattle.tcl_frames.specs.Names.{is_plain, name_of}
+use Rattle.tcl_frames.specs.declared.fault.FrameFault.{FrameFault}
+use Rattle.tcl_frames.specs.declared.fault.FrameFault.TheVariants as frame_fault
 use Rattle.tcl_words.specs.Arguments.{two_or_three_words}
 use Rattle.tcl_words.specs.Outcomes.{Outcome}
 

@@ -5,7 +5,7 @@ use Rattle.std.specs.Fmt.{digits}
 use Rattle.std.specs.Str.{chars}
 use Rattle.tcl_frames.specs.Arrays.{elements_set, elements_unset}
 use Rattle.tcl_frames.specs.Chain.{place_named, read, exists_at, bind, unbind, written, made_array, removed, linked, names_held, names_own, variables_at, names_of, array_at, words_at, popped, set_aside, brought_back}
-use Rattle.tcl_variables.specs.Names.{closed, opened, element_of, colons_after, after_colon, after_colons, name_of, is_plain}
+use Rattle.tcl_frames.specs.Names.{closed, opened, element_of, colons_after, after_colon, after_colons, name_of, is_plain}
 use Rattle.tcl_frames.specs.Places.{bound, next, walk, links_in, links, end_of}
 use Rattle.tcl_parser.specs.Reading.{joined, after_white, after_gap, in_braces, after_name, read_parts, read_words, read_commands, after_script}
 use Rattle.tcl_parser.specs.Several.{several}

@@ -9,8 +9,8 @@ use Rattle.tcl_core.specs.Programs.Prog.{done}
 use Rattle.tcl_frames.specs.Arrays.{after_set_elements, after_unset_elements, is_found, of_elements}
 use Rattle.tcl_frames.specs.Chain.{array_at}
 use Rattle.tcl_frames.specs.Places.{Levels}
-use Rattle.tcl_variables.specs.Arrays.{Elements, taken}
-use Rattle.tcl_variables.specs.declared.fault.FrameFault.{FrameFault}
+use Rattle.tcl_frames.specs.VariableArrays.{Elements, taken}
+use Rattle.tcl_frames.specs.declared.fault.FrameFault.{FrameFault}
 use Rattle.tcl_text.specs.Lists.{list_of}
 use Rattle.tcl_text.specs.Messages.{missing_value}
 use Rattle.tcl_text.specs.Writing.{fault_message, written_list}

@@ -11,7 +11,7 @@ use Rattle.tcl_frames.specs.Chain.{read}
 use Rattle.tcl_lists.specs.Changing.{lset_of}
 use Rattle.tcl_lists.specs.Lists.{first_middle_last, two_and_rest}
 use Rattle.tcl_text.specs.declared.integer.Integers.{Integers}
-use Rattle.tcl_variables.specs.declared.fault.FrameFault.{FrameFault}
+use Rattle.tcl_frames.specs.declared.fault.FrameFault.{FrameFault}
 use Rattle.tcl_words.specs.Arguments.{two_or_three_words}
 use Rattle.tcl_words.specs.Outcomes.{Outcome}
 use Rattle.tcl_language.specs.Data as collections

@@ -9,7 +9,7 @@ use Rattle.tcl_core.specs.Programs.Act.{Charge}
 use Rattle.tcl_core.specs.Programs.Wrap.{Framed}
 use Rattle.tcl_core.specs.Programs.Prog.{done, act, go, inside}
 use Rattle.tcl_frames.specs.Chain.{Chain, after_set, set_aside, brought_back, pushed, popped}
-use Rattle.tcl_variables.specs.declared.fault.FrameFault.{FrameFault}
+use Rattle.tcl_frames.specs.declared.fault.FrameFault.{FrameFault}
 use Rattle.tcl_flow.specs.Returning.{caught, shown, options_message}
 use Rattle.tcl_flow.specs.OptionReading.{return_of}
 use Rattle.tcl_text.specs.declared.integer.Integers.{Integers}

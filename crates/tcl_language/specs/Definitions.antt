@@ -4,7 +4,7 @@ use Rattle.std.specs.Str.{bytes_eq}
 use Rattle.tcl_core.specs.Paths.{Text}
 use Rattle.tcl_core.specs.Endings.{ok}
 use Rattle.tcl_core.specs.Programs.Prog.{done}
-use Rattle.tcl_variables.specs.Names.{is_plain}
+use Rattle.tcl_frames.specs.Names.{is_plain}
 use Rattle.tcl_text.specs.Lists.{list_of}
 use Rattle.tcl_text.specs.Writing.{written_list, fault_message}
 use Rattle.tcl_tree.specs.Changes.{is_child}

@@ -1,9 +1,9 @@
 -- The texts of errors.
 use Rattle.std.specs.Prelude.{[], codes, cond}
 use Rattle.tcl_core.specs.Paths.{Text}
-use Rattle.tcl_variables.specs.Messages.{message, quoted}
-use Rattle.tcl_variables.specs.Names.{has_colons}
-use Rattle.tcl_variables.specs.declared.fault.FrameFault.{FrameFault}
+use Rattle.tcl_frames.specs.Messages.{message, quoted}
+use Rattle.tcl_frames.specs.Names.{has_colons}
+use Rattle.tcl_frames.specs.declared.fault.FrameFault.{FrameFault}
 use Rattle.tcl_text.specs.declared.integer.IntegerFault.{IntegerFault}
 use Rattle.tcl_text.specs.declared.integer.IntegerFault.TheVariants.{NotInteger, TooLarge}
 

@@ -14,7 +14,7 @@ use Rattle.tcl_core.specs.Programs.Prog.{done, exit, call}
 use Rattle.tcl_text.specs.declared.integer.Integers.{Integers}
 use Rattle.tcl_text.specs.Messages as messages
 use Rattle.tcl_language.specs.Instructions.{Program, either, fails, gives, grown}
-use Rattle.tcl_variables.specs.Messages.{quoted}
+use Rattle.tcl_frames.specs.Messages.{quoted}
 use Rattle.tcl_language.specs.Faults.{wrong_args}
 use Rattle.tcl_language.specs.Variables.{integer, sets}
 

@@ -34,7 +34,7 @@ use Rattle.tcl_interpreter.specs.declared.command.Command.TheVariants as command
 use Rattle.tcl_language.specs.Instructions.{Program, either, fails, fits, gives, grown, or_fails}
 use Rattle.tcl_language.specs.Instructions.{look, change, too_long}
 use Rattle.tcl_language.specs.Instructions.Instr.{Serve}
-use Rattle.tcl_variables.specs.Messages.{quoted}
+use Rattle.tcl_frames.specs.Messages.{quoted}
 use Rattle.tcl_language.specs.Faults.{wrong_args, lost_alias, bad_name, invalid_command}
 use Rattle.tcl_language.specs.Faults.{invalid_hidden, unknown_subcommand}
 use Rattle.tcl_language.specs.Names.{is_name}

@@ -1,7 +1,7 @@
 -- The names of commands.
 use Rattle.std.specs.Prelude.{Bool, false, [], ◌∷◌, not}
 use Rattle.tcl_core.specs.Paths.{Text}
-use Rattle.tcl_variables.specs.Names.{has_colons}
+use Rattle.tcl_frames.specs.Names.{has_colons}
 
 -- a name that a child can have: it isn't empty, and has no two colons side by side
 abbrev pub is_name : Text → Bool

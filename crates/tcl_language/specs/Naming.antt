@@ -4,7 +4,7 @@ use Rattle.std.specs.Prelude.{cond, [], ◌∷◌, ◌++◌, Option, Some, None,
 use Rattle.std.specs.Str.{bytes_eq}
 use Rattle.std.specs.Map.{remove_entry}
 use Rattle.tcl_core.specs.Paths.{Text}
-use Rattle.tcl_variables.specs.Names.{has_colons, after_colons}
+use Rattle.tcl_frames.specs.Names.{has_colons, after_colons}
 use Rattle.tcl_tree.specs.Changes.{with_command, without_command, is_child}
 use Rattle.tcl_tree.specs.Naming as tree
 use Rattle.tcl_tree.specs.Own.{Own, command_in, hidden_in}

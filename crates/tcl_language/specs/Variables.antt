@@ -7,10 +7,10 @@ use Rattle.tcl_core.specs.Paths.{Text}
 use Rattle.tcl_core.specs.Endings.{ok}
 use Rattle.tcl_core.specs.Programs.Prog.{done}
 use Rattle.tcl_frames.specs.Chain.{Chain, read, after_set, after_unset, after_link}
-use Rattle.tcl_variables.specs.Names.{name_of, Name}
+use Rattle.tcl_frames.specs.Names.{name_of, Name}
 use Rattle.tcl_frames.specs.Places.{current}
-use Rattle.tcl_variables.specs.declared.fault.FrameFault.{FrameFault}
-use Rattle.tcl_variables.specs.declared.fault.FrameFault.TheVariants as fault
+use Rattle.tcl_frames.specs.declared.fault.FrameFault.{FrameFault}
+use Rattle.tcl_frames.specs.declared.fault.FrameFault.TheVariants as fault
 use Rattle.tcl_text.specs.declared.integer.Integers.{Integers}
 use Rattle.tcl_text.specs.Numbers.{integer_of, in_64_bits, fits_64}
 use Rattle.tcl_text.specs.Messages as messages

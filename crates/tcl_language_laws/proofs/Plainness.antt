@@ -7,7 +7,7 @@ use Rattle.tcl_core.specs.Paths.{Text, Place}
 use Rattle.tcl_core.specs.Entries.{Entry}
 use Rattle.tcl_core.specs.Entries.Entry.{Expose, InvokeHidden, SetCountLimit, SetDepthLimit}
 use Rattle.tcl_core.specs.Tables.{Discipline, Modest, exposes, sets_limit, hostless, unlimiting}
-use Rattle.tcl_variables.specs.Names.{has_colons}
+use Rattle.tcl_frames.specs.Names.{has_colons}
 use Rattle.tcl_language.proofs.Commands as commands
 use Rattle.tcl_language.proofs.Everywhere.{Goes}
 use Rattle.tcl_language.proofs.Facts.{Facts, Names, OwnFacts, Served, any_named, any_own}

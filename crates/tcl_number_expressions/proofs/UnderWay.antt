@@ -8,7 +8,7 @@ use Rattle.tcl_parser.specs.Words.{WordRead}
 use Rattle.tcl_parser.specs.declared.script.Part.{Part}
 use Rattle.tcl_parser.specs.declared.script.Part.TheVariants.{Variable, Literal, Element, EndElement, Script}
 use Rattle.tcl_value.specs.Limits.{Bytes, IsWithin}
-use Rattle.tcl_variables.specs.declared.fault.FrameFault.{FrameFault}
+use Rattle.tcl_frames.specs.declared.fault.FrameFault.{FrameFault}
 use Rattle.std.proofs.lemmas.Bool.Decides.{nat_tests}
 use Rattle.tcl_value.specs.Reading.{int_of}
 use Rattle.tcl_value.proofs.Laws.{int_of-number}

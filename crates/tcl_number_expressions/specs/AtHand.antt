@@ -7,7 +7,7 @@ use Rattle.tcl_parser.specs.declared.script.Part.{Part}
 use Rattle.tcl_parser.specs.declared.script.Part.TheVariants.{Variable}
 use Rattle.tcl_value.specs.Limits.{Bytes}
 use Rattle.tcl_value.specs.Reading.{int_of}
-use Rattle.tcl_variables.specs.declared.fault.FrameFault.{FrameFault}
+use Rattle.tcl_frames.specs.declared.fault.FrameFault.{FrameFault}
 use Rattle.tcl_frames.specs.Places.{Levels}
 use Rattle.tcl_frames.specs.Chain.{read}
 use Rattle.tcl_expr.specs.declared.operator.BinaryOperator.{BinaryOperator}

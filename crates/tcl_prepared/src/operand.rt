@@ -6,7 +6,7 @@ ghost use Rattle.tcl_prepared.specs.Views.{seen_word};
 use crate::pieces::word_pieces;
 use crate::prepared::{PreparedPart, PreparedWord};
 use std::marker::Model;
-use tcl_variables::variable_name::VariableName;
+use tcl_frames::variable_name::VariableName;
 
 /// An operand of an expression that is substituted when it is needed, ready for that. Contracts see
 /// it as the word that was read.

@@ -11,7 +11,7 @@ use std::marker::Model;
 use tcl_parser::fault::Fault;
 use tcl_text::text::Text;
 use tcl_value::value::Value;
-use tcl_variables::variable_name::VariableName;
+use tcl_frames::variable_name::VariableName;
 
 /// The words of a command each of which stands for itself. Contracts see them as their texts.
 pub struct Literals {

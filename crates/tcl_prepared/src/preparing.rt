@@ -20,7 +20,7 @@ use tcl_text::integer::{Integers, read_int};
 use tcl_text::list_comparing::is_int;
 use tcl_text::text::Text;
 use tcl_value::value::Value;
-use tcl_variables::variable_name::VariableName;
+use tcl_frames::variable_name::VariableName;
 
 /// How deep scripts in brackets are read with the script that they stand in.
 pub const MOST_LEVELS: u32 = 16;

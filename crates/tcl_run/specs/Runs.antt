@@ -17,7 +17,7 @@ use Rattle.tcl_core.specs.Execution.{Executes, Crossings, event}
 use Rattle.tcl_core.specs.Trees.{Tree, Node, effect}
 use Rattle.tcl_core.specs.Trees.What.{Changed, Charged, Refused}
 use Rattle.tcl_frames.specs.Chain.{Chain}
-use Rattle.tcl_variables.specs.declared.fault.FrameFault.{FrameFault}
+use Rattle.tcl_frames.specs.declared.fault.FrameFault.{FrameFault}
 use Rattle.tcl_tree.specs.Gone.{held_of}
 use Rattle.tcl_tree.specs.Held.{Stays}
 use Rattle.tcl_tree.specs.Own.{Own}

@@ -4,7 +4,7 @@ ghost use Rattle.tcl_language.specs.Faults as faults;
 ghost use Rattle.tcl_language.specs.Interpreters as interpreters;
 ghost use Rattle.tcl_language.specs.Interpreters.{no_interpreter};
 ghost use Rattle.tcl_text.specs.Writing.{written_list};
-ghost use Rattle.tcl_variables.specs.Messages.{quoted};
+ghost use Rattle.tcl_frames.specs.Messages.{quoted};
 ghost use Rattle.tcl_core.specs.Endings as core;
 ghost use Rattle.tcl_core.specs.Endings.Reply.{Completed};
 ghost use Rattle.tcl_language.specs.Instructions as language;
@@ -18,8 +18,8 @@ use tcl_text::list::write_list;
 use tcl_text::messages::{ALREADY_EXISTS, DENIED, TOO_LONG};
 use tcl_text::text::Text;
 use tcl_value::value::Value;
-use tcl_variables::fault::quoted;
-use tcl_variables::name::with_colons;
+use tcl_frames::fault::quoted;
+use tcl_frames::name::with_colons;
 use tcl_words::refusal::Refusal;
 
 /// The error of a message within the limit of a value.

@@ -29,8 +29,8 @@ use tcl_text::list::ListError;
 use tcl_tree::tree::{Place, Tree};
 use tcl_value::list::List;
 use tcl_value::value::Value;
-use tcl_variables::fault::FrameError;
-use tcl_variables::variable_name::VariableName;
+use tcl_frames::fault::FrameError;
+use tcl_frames::variable_name::VariableName;
 
 /// The error that a refusal of the variables is.
 pub fn frame_failure(alloc: Global, error: FrameError) -> Interruption

@@ -40,7 +40,7 @@ use Rattle.tcl_tree.specs.Own.{Own}
 use Rattle.tcl_tree.specs.TreeOf.{tree_of}
 use Rattle.tcl_tree.specs.declared.tree.Tree.{Tree as Table}
 use Rattle.tcl_tree.specs.declared.tree.Place.{Place as TablePlace}
-use Rattle.tcl_variables.specs.declared.fault.FrameFault.{FrameFault}
+use Rattle.tcl_frames.specs.declared.fault.FrameFault.{FrameFault}
 use Rattle.tcl_value.specs.Texts.{AllWithin}
 use Rattle.tcl_calls.specs.Words.{words_of, AtOk, Closes, ClosesBy, Adds, EndsBy}
 use Rattle.tcl_words_at_hand.specs.Scripts.{read_so}

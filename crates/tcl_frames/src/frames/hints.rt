@@ -1,15 +1,15 @@
 //! Names that are looked up in less time where they stand where they were found last.
 ghost use Rattle.std.specs.Prelude.{◌≡◌, Ok, MatchOption, IfOk, OnOk, IfErr, OnErr, IfSome};
 ghost use Rattle.std.specs.Borrow.{sem};
-ghost use Rattle.tcl_variables.specs.Faults.{Refuses};
+ghost use Rattle.tcl_frames.specs.Faults.{Refuses};
 ghost use Rattle.tcl_frames.specs.Chain.{read, after_set};
 ghost use Rattle.tcl_frames.specs.LendingChain.{LendsNear};
 
 use crate::frames::Frames;
 use std::alloc::{AllocError, Global};
 use tcl_value::value::Value;
-use tcl_variables::fault::FrameError;
-use tcl_variables::variable_name::VariableName;
+use crate::fault::FrameError;
+use crate::variable_name::VariableName;
 
 impl Frames {
     /// The value that a name holds, if it is that of a variable of the current frame and no array

@@ -15,8 +15,8 @@ use tcl_frames::frames::Frames;
 use tcl_frames::scope::Scope;
 use tcl_text::text::Text;
 use tcl_value::value::Value;
-use tcl_variables::fault::FrameError;
-use tcl_variables::name_map::NameMap;
+use tcl_frames::fault::FrameError;
+use tcl_frames::name_map::NameMap;
 
 impl Told for FrameError {
     fn show(&self, alloc: Global) -> Result<String, AllocError> {

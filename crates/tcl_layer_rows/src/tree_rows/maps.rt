@@ -10,8 +10,8 @@ use std::alloc::{AllocError, Global};
 use std::mem::swap;
 use tcl_text::text::Text;
 use tcl_value::value::Value;
-use tcl_variables::comparing::Same;
-use tcl_variables::name_map::NameMap;
+use tcl_frames::comparing::Same;
+use tcl_frames::name_map::NameMap;
 
 /// The answer of a call that changes the map.
 fn done(alloc: Global, changed: Result<(), AllocError>) -> Result<Answer, AllocError> {

@@ -5,9 +5,9 @@ use Rattle.tcl_core.specs.Trees.{Node, effect}
 use Rattle.tcl_core.specs.Trees.What.{Changed}
 use Rattle.tcl_frames.specs.Chain.{Chain, set_aside}
 use Rattle.tcl_language.specs.Instructions.{with_chain}
-use Rattle.tcl_variables.specs.Faults.{Refuses}
-use Rattle.tcl_variables.specs.declared.fault.FrameError.{FrameError}
-use Rattle.tcl_variables.specs.declared.fault.FrameError.TheVariants.{Fault}
+use Rattle.tcl_frames.specs.Faults.{Refuses}
+use Rattle.tcl_frames.specs.declared.fault.FrameError.{FrameError}
+use Rattle.tcl_frames.specs.declared.fault.FrameError.TheVariants.{Fault}
 use Rattle.tcl_run.proofs.Steady.{lent_level}
 use Rattle.tcl_tree.specs.Own.{Own}
 use Rattle.tcl_tree.specs.TreeOf.{tree_of}

@@ -3,7 +3,7 @@ use Rattle.std.specs.Option.{option_and_then}
 use Rattle.tcl_core.specs.Trees.{Node}
 use Rattle.tcl_interpreter.specs.Own.{command_in}
 use Rattle.tcl_tree.specs.Own.{Own}
-use Rattle.tcl_variables.specs.Names.{has_colons}
+use Rattle.tcl_frames.specs.Names.{has_colons}
 use Rattle.tcl_calls.proofs.Naming.{found_kept}
 use Rattle.tcl_calls.proofs.lookup.standing.Goals as goal
 

@@ -1,7 +1,7 @@
 use Rattle.std.proofs.Common.{◌++◌, take, drop, length, ap, ◌∙◌}
 use Rattle.std.specs.Prelude.{◌-◌}
 use Rattle.tcl_language.specs.Arrays.{in_pairs}
-use Rattle.tcl_variables.specs.Arrays.{Elements}
+use Rattle.tcl_frames.specs.VariableArrays.{Elements}
 use Rattle.tcl_commands.proofs.ArrayEnds.{pairs_step}
 use Rattle.tcl_commands.proofs.arrays.in_pairs.Goals as goal
 

@@ -6,7 +6,7 @@ use Rattle.tcl_language.specs.Arrays as arrays
 use Rattle.tcl_language.specs.Instructions.{gives}
 use Rattle.tcl_run.proofs.Endings.{tells}
 use Rattle.tcl_text.specs.Writing.{written_list}
-use Rattle.tcl_variables.specs.Arrays.{taken}
+use Rattle.tcl_frames.specs.VariableArrays.{taken}
 use Rattle.tcl_commands.proofs.ArrayEnds.{list_acts, reads_fails, reads_gives}
 use Rattle.tcl_commands.proofs.arrays.pairs_listed.Goals as goal
 

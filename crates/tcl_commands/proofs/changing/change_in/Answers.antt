@@ -1,5 +1,5 @@
 use Rattle.std.proofs.Common.{true, false, sym}
-use Rattle.tcl_variables.proofs.FrameLemmas.{at_some}
+use Rattle.tcl_frames.proofs.FrameLemmas.{at_some}
 use Rattle.tcl_commands.specs.Changed.{altered}
 use Rattle.tcl_commands.proofs.Alterations.{alters_lent, alters_there}
 use Rattle.tcl_commands.proofs.changing.change_in.Goals as goal

@@ -1,6 +1,6 @@
 use Rattle.std.proofs.Common.{ℕ, List, subst}
 use Rattle.tcl_frames.specs.Chain.{Chain}
-use Rattle.tcl_variables.proofs.FrameLemmas.{at_some}
+use Rattle.tcl_frames.proofs.FrameLemmas.{at_some}
 use Rattle.tcl_commands.specs.Growing.{Grows}
 use Rattle.tcl_commands.specs.GrowthKinds.{first_of, grown_by}
 use Rattle.tcl_commands.proofs.Growths.{grows_lent}

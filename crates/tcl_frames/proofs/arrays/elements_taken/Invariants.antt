@@ -1,6 +1,6 @@
 use Rattle.std.proofs.Common.{◌≡◌, ◌++◌, drop}
 use Rattle.std.specs.Option.{option_copied}
-use Rattle.tcl_variables.specs.Arrays.{taken}
+use Rattle.tcl_frames.specs.VariableArrays.{taken}
 use Rattle.tcl_frames.proofs.arrays.elements_taken.Given as goal
 
 abbrev pub invariant-pairs : goal.invariant-pairs

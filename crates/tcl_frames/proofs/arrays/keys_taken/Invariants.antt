@@ -1,7 +1,7 @@
 use Rattle.std.proofs.Common.{◌≡◌, ◌++◌, drop}
 use Rattle.std.specs.Map.{keys_of}
 use Rattle.std.specs.Option.{option_copied}
-use Rattle.tcl_variables.specs.Arrays.{taken}
+use Rattle.tcl_frames.specs.VariableArrays.{taken}
 use Rattle.tcl_frames.proofs.arrays.keys_taken.Given as goal
 
 abbrev pub invariant-keys : goal.invariant-keys

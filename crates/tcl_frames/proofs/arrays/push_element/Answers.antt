@@ -1,7 +1,7 @@
 use Rattle.std.proofs.Common.{◌∙◌, sym, ap}
 use Rattle.std.proofs.lemmas.Result.{on_ok_weaker}
 use Rattle.std.specs.Option.{option_map, option_copied}
-use Rattle.tcl_variables.specs.Entries.{lent_entry}
+use Rattle.tcl_frames.specs.Entries.{lent_entry}
 use Rattle.tcl_frames.proofs.ArrayLemmas.{element_step}
 use Rattle.tcl_frames.proofs.arrays.push_element.Goals as goal
 

@@ -1,8 +1,8 @@
 use Rattle.std.proofs.Common.{◌≡◌, sym, ap, subst, Ok}
 use Rattle.std.specs.Prelude.{OnOk, IfErr}
-use Rattle.tcl_variables.specs.Faults.{Refuses}
+use Rattle.tcl_frames.specs.Faults.{Refuses}
 use Rattle.std.specs.Option.{option_copied}
-use Rattle.tcl_variables.specs.Written.{seen}
+use Rattle.tcl_frames.specs.Written.{seen}
 use Rattle.tcl_frames.proofs.StepLemmas.{read_none, read_some, place_bad}
 use Rattle.tcl_frames.proofs.KeyLemmas.{change_key_bad, key_coded, nested_coded}
 use Rattle.tcl_frames.proofs.keys.change_key_in.Goals as goal

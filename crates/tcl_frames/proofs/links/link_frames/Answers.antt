@@ -1,12 +1,12 @@
 use Rattle.std.proofs.Common.{◌≡◌, ◌-◌, ◌∙◌, sym, ap, subst, length, arith, false, true, Ok}
 use Rattle.std.specs.Prelude.{OnOk, IfErr}
 use Rattle.std.proofs.lemmas.Option.{MatchOption-at_some, MatchOption-at_none}
-use Rattle.tcl_variables.specs.Faults.{Refuses}
-use Rattle.tcl_variables.specs.Names.{is_plain}
+use Rattle.tcl_frames.specs.Faults.{Refuses}
+use Rattle.tcl_frames.specs.Names.{is_plain}
 use Rattle.tcl_frames.specs.Targets.{target_or}
-use Rattle.tcl_variables.specs.Variables.{part_of}
+use Rattle.tcl_frames.specs.Variables.{part_of}
 use Rattle.tcl_frames.specs.Reached.{start}
-use Rattle.tcl_variables.specs.Written.{seen}
+use Rattle.tcl_frames.specs.Written.{seen}
 use Rattle.tcl_frames.proofs.StepLemmas.{read_none, read_some}
 use Rattle.tcl_frames.proofs.LinkLemmas.{refuses_past, refuses_itself, good_from, linked_bad_other, linked_bad_local, from_nested, from_place, less_one}
 use Rattle.tcl_frames.proofs.links.link_frames.Goals as goal

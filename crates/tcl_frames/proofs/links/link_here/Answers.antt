@@ -2,8 +2,8 @@ use Rattle.std.proofs.Common.{◌-◌, ◌∙◌, ap, length, get_or, arith}
 use Rattle.std.specs.Option.{option_copied}
 use Rattle.std.proofs.lemmas.Option.{slice_get-get_or}
 use Rattle.tcl_frames.specs.Places.{bound}
-use Rattle.tcl_variables.specs.Rebinding.{with_variable}
-use Rattle.tcl_variables.specs.declared.variable.Variable.TheVariants.{Link}
+use Rattle.tcl_frames.specs.Rebinding.{with_variable}
+use Rattle.tcl_frames.specs.declared.variable.Variable.TheVariants.{Link}
 use Rattle.tcl_frames.proofs.LinkLemmas.{over_bound, less_one}
 use Rattle.tcl_frames.proofs.links.link_here.Goals as goal
 

@@ -1,8 +1,8 @@
 use Rattle.std.proofs.Common.{◌∙◌, sym, ap}
 use Rattle.std.proofs.lemmas.Result.{on_ok_weaker}
 use Rattle.std.specs.Option.{option_map, option_copied}
-use Rattle.tcl_variables.specs.Access.{is_held}
-use Rattle.tcl_variables.specs.Entries.{lent_entry}
+use Rattle.tcl_frames.specs.Access.{is_held}
+use Rattle.tcl_frames.specs.Entries.{lent_entry}
 use Rattle.tcl_frames.specs.Places.{end_of}
 use Rattle.tcl_frames.specs.Reached.{start}
 use Rattle.tcl_frames.proofs.NamesLemmas.{held_step}

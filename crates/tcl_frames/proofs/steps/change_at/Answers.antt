@@ -1,9 +1,9 @@
 use Rattle.std.proofs.Common.{get_or}
 use Rattle.std.proofs.lemmas.Option.{slice_get-get_or}
 use Rattle.std.proofs.lemmas.Result.{on_ok_weaker, IfErr-weaker}
-use Rattle.tcl_variables.specs.Parts.{seen_part}
-use Rattle.tcl_variables.specs.Faults.{Refuses}
-use Rattle.tcl_variables.specs.Rebinding.{change_frame}
+use Rattle.tcl_frames.specs.Parts.{seen_part}
+use Rattle.tcl_frames.specs.Faults.{Refuses}
+use Rattle.tcl_frames.specs.Rebinding.{change_frame}
 use Rattle.tcl_frames.specs.Changes.{change_levels}
 use Rattle.tcl_frames.specs.Reached.{start, over}
 use Rattle.tcl_frames.proofs.StepLemmas.{change_level, refuses_level}

@@ -2,8 +2,8 @@ use Rattle.std.proofs.Common.{◌≡◌, ◌<◌, length, sym, ◌∙◌, subst,
 use Rattle.std.specs.Prelude.{OnOk, IfErr}
 use Rattle.std.specs.Option.{option_copied}
 use Rattle.std.proofs.lemmas.Option.{MatchOption-at_none, MatchOption-at_some}
-use Rattle.tcl_variables.specs.Variables.{Part, part_of}
-use Rattle.tcl_variables.specs.Faults.{Refuses}
+use Rattle.tcl_frames.specs.Variables.{Part, part_of}
+use Rattle.tcl_frames.specs.Faults.{Refuses}
 use Rattle.tcl_frames.specs.Changes.{change_levels, IsChangedThere}
 use Rattle.tcl_frames.specs.Reached.{start, over}
 use Rattle.tcl_frames.specs.Sound.{AreFit}

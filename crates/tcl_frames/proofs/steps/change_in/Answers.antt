@@ -1,7 +1,7 @@
 use Rattle.std.proofs.Common.{◌≡◌, sym, subst, Ok}
 use Rattle.std.specs.Prelude.{OnOk, IfErr}
-use Rattle.tcl_variables.specs.Faults.{Refuses}
-use Rattle.tcl_variables.specs.Written.{seen}
+use Rattle.tcl_frames.specs.Faults.{Refuses}
+use Rattle.tcl_frames.specs.Written.{seen}
 use Rattle.tcl_frames.proofs.StepLemmas.{read_none, read_some, place_bad, change_bad_name, change_is}
 use Rattle.tcl_frames.proofs.steps.change_in.Goals as goal
 

@@ -3,10 +3,10 @@ use Rattle.std.proofs.lemmas.Option.{slice_get-get_or}
 use Rattle.std.proofs.lemmas.Result.{IfErr-weaker}
 use Rattle.std.specs.Map.{lookup}
 use Rattle.std.specs.Str.{bytes_eq}
-use Rattle.tcl_variables.specs.Parts.{seen_part}
-use Rattle.tcl_variables.specs.Access.{is_linked}
-use Rattle.tcl_variables.specs.Faults.{Refuses}
-use Rattle.tcl_variables.specs.Rebinding.{change_frame}
+use Rattle.tcl_frames.specs.Parts.{seen_part}
+use Rattle.tcl_frames.specs.Access.{is_linked}
+use Rattle.tcl_frames.specs.Faults.{Refuses}
+use Rattle.tcl_frames.specs.Rebinding.{change_frame}
 use Rattle.tcl_frames.specs.Changes.{change_levels}
 use Rattle.tcl_frames.specs.Places.{bound}
 use Rattle.tcl_frames.specs.Reached.{start, over, link_of}

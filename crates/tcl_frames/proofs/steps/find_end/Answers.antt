@@ -1,5 +1,5 @@
 use Rattle.std.specs.Option.{option_copied}
-use Rattle.tcl_variables.specs.Variables.{part_of}
+use Rattle.tcl_frames.specs.Variables.{part_of}
 use Rattle.tcl_frames.proofs.StepLemmas.{target_none}
 use Rattle.tcl_frames.proofs.steps.find_end.Goals as goal
 

@@ -1,6 +1,6 @@
 use Rattle.std.proofs.Common.{◌∙◌, sym, ap}
 use Rattle.std.specs.Option.{option_copied}
-use Rattle.tcl_variables.specs.Variables.{part_of}
+use Rattle.tcl_frames.specs.Variables.{part_of}
 use Rattle.tcl_frames.specs.Reached.{reached, link_of}
 use Rattle.tcl_frames.proofs.StepLemmas.{target_none, target_some}
 use Rattle.tcl_frames.proofs.steps.find_target.Goals as goal

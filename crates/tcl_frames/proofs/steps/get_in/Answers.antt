@@ -1,7 +1,7 @@
 use Rattle.std.proofs.Common.{◌≡◌, sym, subst, Ok}
 use Rattle.std.specs.Prelude.{IfOk, IfErr}
 use Rattle.std.proofs.lemmas.Result.{err_from_is_err_and}
-use Rattle.tcl_variables.specs.Faults.{Refuses}
+use Rattle.tcl_frames.specs.Faults.{Refuses}
 use Rattle.tcl_frames.proofs.StepLemmas.{read_bad_name, read_whole, read_key}
 use Rattle.tcl_frames.proofs.steps.get_in.Goals as goal
 

@@ -1,6 +1,6 @@
 use Rattle.std.specs.Option.{option_copied}
-use Rattle.tcl_variables.specs.Parts.{seen_part}
-use Rattle.tcl_variables.specs.Written.{seen}
+use Rattle.tcl_frames.specs.Parts.{seen_part}
+use Rattle.tcl_frames.specs.Written.{seen}
 use Rattle.tcl_frames.proofs.StepLemmas.{read_none, read_some, place_bad, stands}
 use Rattle.tcl_frames.proofs.steps.look.Goals as goal
 

@@ -1,8 +1,8 @@
 use Rattle.std.proofs.Common.{◌∙◌, sym, ap, subst, ◌<◌}
 use Rattle.std.specs.Option.{option_copied}
-use Rattle.tcl_variables.specs.Parts.{seen_part}
+use Rattle.tcl_frames.specs.Parts.{seen_part}
 use Rattle.tcl_frames.specs.Places.{Spot, end_of, links, next}
-use Rattle.tcl_variables.specs.Variables.{Part}
+use Rattle.tcl_frames.specs.Variables.{Part}
 use Rattle.tcl_frames.proofs.WalkLemmas.{hops}
 use Rattle.tcl_frames.proofs.ReachLemmas.{follow_falls, follow_end, follow_here}
 use Rattle.tcl_frames.proofs.steps.reach.Goals as goal

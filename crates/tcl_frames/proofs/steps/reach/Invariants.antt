@@ -1,7 +1,7 @@
 use Rattle.std.proofs.Common.{◌≡◌}
 use Rattle.tcl_frames.specs.Places.{end_of, under, links, next}
-use Rattle.tcl_variables.specs.Variables.Part.{whole}
-use Rattle.tcl_variables.specs.Parts.{seen_part}
+use Rattle.tcl_frames.specs.Variables.Part.{whole}
+use Rattle.tcl_frames.specs.Parts.{seen_part}
 use Rattle.tcl_frames.proofs.WalkLemmas.{hops}
 use Rattle.tcl_frames.proofs.steps.reach.Given as goal
 

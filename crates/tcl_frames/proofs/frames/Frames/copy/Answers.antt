@@ -1,7 +1,7 @@
 use Rattle.std.proofs.Common.{◌≡◌, ◌≤◌, ◌∙◌, List, sym, ap, subst, reverse, arith}
 use Rattle.std.specs.Vec.{vec_capacity}
 use Rattle.std.proofs.lemmas.List.Elements.{same_from_all_zip}
-use Rattle.tcl_variables.specs.Variables.{Frame}
+use Rattle.tcl_frames.specs.Variables.{Frame}
 use Rattle.tcl_frames.specs.Places.{Levels}
 use Rattle.tcl_frames.specs.Chain.{Aside}
 use Rattle.tcl_frames.specs.Sound.{IsSound, HasRoom}

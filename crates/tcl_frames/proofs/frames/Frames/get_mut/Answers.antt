@@ -1,8 +1,8 @@
 use Rattle.std.proofs.Common.{◌≡◌, refl, sym, ◌∙◌, ap, subst, Ok, reverse, length, arith}
 use Rattle.std.specs.Prelude.{IfOk, IfErr}
-use Rattle.tcl_variables.specs.Faults.{Refuses}
-use Rattle.tcl_variables.specs.Written.{seen}
-use Rattle.tcl_variables.specs.declared.frame.Change.TheVariants.{Assign}
+use Rattle.tcl_frames.specs.Faults.{Refuses}
+use Rattle.tcl_frames.specs.Written.{seen}
+use Rattle.tcl_frames.specs.declared.frame.Change.TheVariants.{Assign}
 use Rattle.tcl_frames.specs.Places.{Levels, current, level_of}
 use Rattle.tcl_frames.specs.Chain.{Chain, with_frames}
 use Rattle.tcl_frames.proofs.ChainLemmas.{chain, sound_positive}

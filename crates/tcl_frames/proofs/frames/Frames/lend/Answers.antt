@@ -1,9 +1,9 @@
 use Rattle.std.proofs.Common.{◌<◌, refl, sym, ◌∙◌, ap, subst, is_ok, reverse, length}
 use Rattle.std.specs.Vec.{vec_capacity}
 use Rattle.std.proofs.lemmas.Option.{slice_get_read}
-use Rattle.tcl_variables.specs.Access.{value_of}
-use Rattle.tcl_variables.specs.Faults.{Refuses}
-use Rattle.tcl_variables.specs.Parts.{seen_part}
+use Rattle.tcl_frames.specs.Access.{value_of}
+use Rattle.tcl_frames.specs.Faults.{Refuses}
+use Rattle.tcl_frames.specs.Parts.{seen_part}
 use Rattle.tcl_frames.specs.Chain.{Chain}
 use Rattle.tcl_frames.proofs.LendLemmas.{lent_sound, lent_is_set, kept_is, bound_of, at_err}
 use Rattle.tcl_frames.proofs.frames.Frames.lend.Goals as goal

@@ -1,6 +1,6 @@
 use Rattle.std.proofs.Common.{sym, ◌∙◌, ap, subst, arith}
 use Rattle.std.specs.Option.{option_copied}
-use Rattle.tcl_variables.specs.Variables.{part_of}
+use Rattle.tcl_frames.specs.Variables.{part_of}
 use Rattle.tcl_frames.specs.Places.{Spot}
 use Rattle.tcl_frames.specs.Reached.{start, over}
 use Rattle.tcl_frames.specs.Sound.{AreFit}

@@ -1,8 +1,8 @@
 use Rattle.std.proofs.Common.{refl, sym, ap, ◌∙◌, reverse, length, arith}
 use Rattle.std.specs.Vec.{vec_capacity}
 use Rattle.std.proofs.lemmas.Option.{slice_get_read}
-use Rattle.tcl_variables.specs.Variables.Part.{whole}
-use Rattle.tcl_variables.proofs.FrameLemmas.{at_some}
+use Rattle.tcl_frames.specs.Variables.Part.{whole}
+use Rattle.tcl_frames.proofs.FrameLemmas.{at_some}
 use Rattle.tcl_frames.specs.Chain.{Chain}
 use Rattle.tcl_frames.specs.Places.{current}
 use Rattle.tcl_frames.proofs.LendLemmas.{lent_sound, kept_is}

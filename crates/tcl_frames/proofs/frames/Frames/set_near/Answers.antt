@@ -1,4 +1,4 @@
-use Rattle.tcl_variables.proofs.FrameLemmas.{at_some}
+use Rattle.tcl_frames.proofs.FrameLemmas.{at_some}
 use Rattle.tcl_frames.proofs.frames.Frames.set_near.Goals as goal
 
 pub returns-in-Some-clause-ok : goal.returns-in-Some-clause-ok

@@ -3,7 +3,7 @@ use Rattle.std.specs.Prelude.{OnOk}
 use Rattle.std.proofs.lemmas.Result.{IfErr-weaker}
 use Rattle.tcl_frames.specs.Arrays.{elements_unset}
 use Rattle.tcl_frames.specs.Chain.{with_frames}
-use Rattle.tcl_variables.specs.Faults.{Refuses}
+use Rattle.tcl_frames.specs.Faults.{Refuses}
 use Rattle.tcl_frames.proofs.ChainLemmas.{with_refused}
 use Rattle.tcl_frames.proofs.StepLemmas.{elements_unset_is}
 use Rattle.tcl_frames.proofs.frames.Frames.unset_elements.Goals as goal

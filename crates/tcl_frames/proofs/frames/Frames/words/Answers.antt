@@ -1,6 +1,6 @@
 use Rattle.std.proofs.Common.{◌∙◌, ap, List, Some}
 use Rattle.std.proofs.lemmas.Option.{slice_get_past}
-use Rattle.tcl_variables.specs.Names.{Text}
+use Rattle.tcl_frames.specs.Names.{Text}
 use Rattle.tcl_frames.specs.Places.{Levels}
 use Rattle.tcl_frames.specs.Chain.{Chain, words_at}
 use Rattle.tcl_frames.proofs.ChainLemmas.{words_there, words_nowhere}

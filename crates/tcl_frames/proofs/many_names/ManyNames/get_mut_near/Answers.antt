@@ -1,0 +1,31 @@
+use Rattle.std.proofs.Common.{◌∙◌, sym, ap, refl}
+use Rattle.std.specs.Map.{lookup, set_value}
+use Rattle.std.specs.Str.{bytes_eq}
+use Rattle.tcl_frames.specs.Entries.{named}
+use Rattle.tcl_frames.proofs.EntryLemmas.{lookup-named, set-named, on_some, found_at, set_at}
+use Rattle.tcl_frames.proofs.many_names.ManyNames.get_mut_near.Goals as goal
+
+pub returns : goal.returns
+returns g c =
+    let q = c.args.name.now in
+    let es = c.self.inside.entries.entries in
+    let stands = c.is_at.ensures c.if-not-is_at.false in (
+      (
+        refl,
+        (λ w. on_some c.get_index_mut.result (ap named (set_at es c.args.place q w c.get_index_mut.ensures.unique stands) ∙ set-named q es w ∙ ap (λ fs. set_value (bytes_eq q) fs w) c.self.view_is)),
+        c.self.view_is,
+      ),
+      c.get_index_mut.ensures.value ∙ found_at es c.args.place q c.get_index_mut.ensures.unique stands ∙ sym (lookup-named q es) ∙ ap (lookup (bytes_eq q)) c.self.view_is,
+    )
+
+pub returns-then-not-is_at : goal.returns-then-not-is_at
+returns-then-not-is_at g c =
+    let q = c.args.name.now in
+    let es = c.self.inside.entries.entries in (
+      (
+        refl,
+        (λ w. on_some c.get_mut.result (ap named (c.get_mut.follows.holds w).0 ∙ set-named q es w ∙ ap (λ fs. set_value (bytes_eq q) fs w) c.self.view_is)),
+        ap (λ m. named m.entries) c.get_mut.follows.holds-at-none ∙ c.self.view_is,
+      ),
+      c.get_mut.ensures.value ∙ sym (lookup-named q es) ∙ ap (lookup (bytes_eq q)) c.self.view_is,
+    )

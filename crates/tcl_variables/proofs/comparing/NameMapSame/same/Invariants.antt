@@ -1,5 +1,0 @@
-use Rattle.std.proofs.Common.{◌≡◌, take}
-use Rattle.tcl_variables.proofs.comparing.NameMapSame.same.Given as goal
-
-abbrev pub invariant-entries : goal.invariant-entries
-invariant-entries g l = take l.index l.self ≡ take l.index l.other

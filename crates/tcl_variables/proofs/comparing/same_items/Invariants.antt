@@ -1,5 +1,0 @@
-use Rattle.std.proofs.Common.{◌≡◌, take}
-use Rattle.tcl_variables.proofs.comparing.same_items.Given as goal
-
-abbrev pub invariant-items : goal.invariant-items
-invariant-items g l = take l.index l.these ≡ take l.index l.those

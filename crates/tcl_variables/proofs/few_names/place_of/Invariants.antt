@@ -1,7 +1,0 @@
-use Rattle.std.proofs.Common.{◌≡◌, None, take}
-use Rattle.std.specs.Map.{lookup}
-use Rattle.std.specs.Str.{bytes_eq}
-use Rattle.tcl_variables.proofs.few_names.place_of.Given as goal
-
-abbrev pub invariant-entries : goal.invariant-entries
-invariant-entries g l = lookup (bytes_eq l.name) (take l.index l.entries) ≡ None

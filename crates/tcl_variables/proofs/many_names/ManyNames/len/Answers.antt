@@ -1,6 +1,0 @@
-use Rattle.std.proofs.Common.{◌∙◌, sym, ap, length}
-use Rattle.tcl_variables.proofs.EntryLemmas.{length-named}
-use Rattle.tcl_variables.proofs.many_names.ManyNames.len.Goals as goal
-
-pub returns : goal.returns
-returns g c = c.len.ensures.len ∙ sym (length-named c.self.inside.entries.entries) ∙ ap length c.self.view_is
