@@ -14,3 +14,13 @@ mod Naming
 mod Stops
 mod Turning
 mod Walking
+pub mod Asked
+pub mod Carried
+pub mod Changing
+pub mod Counting
+pub mod Listed
+pub mod Looks
+pub mod Reached
+pub mod Served
+pub mod Standing
+pub mod EntryTelling

@@ -12,3 +12,8 @@ pub mod Trying
 pub mod Turns
 pub mod Walks
 pub mod Words
+pub mod Asking
+pub mod Listing
+pub mod Looking
+pub mod Naming
+pub mod Telling

@@ -23,7 +23,7 @@ use Rattle.tcl_tree.specs.Own.{Own}
 use Rattle.tcl_tree.specs.TreeOf.{tree_of}
 use Rattle.tcl_tree.specs.declared.tree.Tree.{Tree as Table}
 use Rattle.tcl_tree.specs.declared.tree.Place.{Place as TablePlace}
-use Rattle.tcl_entries.specs.Looking.{LooksTo, here, looked, GetsTo, GetsToEnd}
+use Rattle.tcl_calls.specs.Looking.{LooksTo, here, looked, GetsTo, GetsToEnd}
 use Rattle.tcl_evaluation.specs.View.{Asks, GoesOn}
 use Rattle.tcl_words_at_hand.proofs.Steps.{EndsFrom, EndsAt}
 use Rattle.tcl_words_at_hand.proofs.Plainly.{there_at}

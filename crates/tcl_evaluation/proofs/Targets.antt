@@ -42,8 +42,8 @@ use Rattle.tcl_tree.specs.declared.tree.Tree.{Tree as Table}
 use Rattle.tcl_tree.specs.declared.tree.Place.{Place as TablePlace}
 use Rattle.tcl_tree.specs.declared.tree.places.Reach.TheVariants as reach
 use Rattle.tcl_calls.specs.Carrying.{ComesBack, EndedBy, Settles}
-use Rattle.tcl_entries.specs.Asking.{asks_below}
-use Rattle.tcl_entries.proofs.Carried.{ended_by}
+use Rattle.tcl_calls.specs.Asking.{asks_below}
+use Rattle.tcl_calls.proofs.Carried.{ended_by}
 use Rattle.tcl_evaluation.specs.View.{AsksBelow, GoesOn, targeted, unhidden}
 use Rattle.tcl_evaluation.specs.Waiting.{CallsThere, FindsNobody, calls}
 

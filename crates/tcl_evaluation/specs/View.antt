@@ -17,7 +17,7 @@ use Rattle.tcl_language.specs.Instructions.{Program, Open}
 use Rattle.tcl_run.specs.Language.{language}
 use Rattle.tcl_language.specs.Scripts.{parts}
 use Rattle.tcl_core.specs.Entries.{Entry}
-use Rattle.tcl_entries.specs.Asking.{asks_below}
+use Rattle.tcl_calls.specs.Asking.{asks_below}
 use Rattle.tcl_language.specs.Interpreters.{asks_at}
 use Rattle.tcl_parser.specs.declared.script.Part.{Part}
 use Rattle.tcl_run.specs.Runs.{IsAt, Proceeds, Ways}

@@ -23,7 +23,7 @@ use crate::waiting::{Said, wait};
 use std::alloc::Global;
 use tcl_calls::carrying::{return_to_caller, settled, some_words};
 use tcl_calls::levels::{bring_back, set_aside};
-use tcl_entries::serving::serve;
+use tcl_calls::serving::serve;
 use tcl_run::entry::Entry;
 use tcl_run::failure::{denied, lost_alias, no_interpreter, too_deep};
 use tcl_run::interruption::Interruption;

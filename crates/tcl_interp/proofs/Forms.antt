@@ -27,9 +27,9 @@ use Rattle.tcl_tree.specs.declared.tree.Tree.{Tree as Table}
 use Rattle.tcl_tree.specs.declared.tree.Place.{Place as TablePlace}
 use Rattle.tcl_tree.specs.declared.tree.places.Reach.TheVariants as reach
 use Rattle.tcl_tree.proofs.CoreLemmas.{tree_there}
-use Rattle.tcl_entries.specs.Looking.{GetsTo, GetsToEnd, looked}
-use Rattle.tcl_entries.proofs.Looks.{is_program, looks_here}
-use Rattle.tcl_entries.proofs.Reached.{there_below, gone_below}
+use Rattle.tcl_calls.specs.Looking.{GetsTo, GetsToEnd, looked}
+use Rattle.tcl_calls.proofs.Looks.{is_program, looks_here}
+use Rattle.tcl_calls.proofs.Reached.{there_below, gone_below}
 use Rattle.tcl_interp.specs.Programs.{aliases, depth_form, depth_of, depths, given, gives_alias, hides_or_exposes, hiding_forms, limits, questions}
 use Rattle.tcl_interp.specs.declared.hiding.Hiding.{Hiding}
 use Rattle.tcl_interp.specs.Subjects.{About, asks_of, form_of, on_child, on_itself, on_path}

@@ -16,9 +16,9 @@ use Rattle.tcl_text.specs.declared.integer.Integers.{Integers}
 use Rattle.tcl_tree.specs.TreeOf.{tree_of, marks_of}
 use Rattle.tcl_tree.specs.declared.tree.Tree.{Tree as Table_of}
 use Rattle.tcl_tree.specs.declared.tree.Place.{Place as TablePlace}
-use Rattle.tcl_entries.specs.Asking.{Styled}
-use Rattle.tcl_entries.specs.Looking.{LooksToEnd, GetsTo, GetsToEnd, Finds, here}
-use Rattle.tcl_entries.proofs.Looks.{gets_as, gets_end, gets_failed, is_program, looks_as, looks_then}
+use Rattle.tcl_calls.specs.Asking.{Styled}
+use Rattle.tcl_calls.specs.Looking.{LooksToEnd, GetsTo, GetsToEnd, Finds, here}
+use Rattle.tcl_calls.proofs.Looks.{gets_as, gets_end, gets_failed, is_program, looks_as, looks_then}
 use Rattle.tcl_interp.specs.Limits.{DepthGiven}
 use Rattle.tcl_interp.specs.Programs.{settable}
 use Rattle.tcl_interp.specs.Subjects.{About, on_child, on_itself, on_path}

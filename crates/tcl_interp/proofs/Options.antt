@@ -8,7 +8,7 @@ use Rattle.tcl_language.specs.Instructions.{either, fails}
 use Rattle.tcl_language.specs.Interpreters.{create_options, create_path, is_option, bad_option, least_free, numbered, free_name}
 use Rattle.tcl_tree.specs.Own.{Own, CommandMap}
 use Rattle.tcl_value.specs.Limits.{IsWithin}
-use Rattle.tcl_entries.proofs.Looks.{is_word, is_no_word}
+use Rattle.tcl_calls.proofs.Looks.{is_word, is_no_word}
 
 module _ (safe : Bool) (word : Text) (words : List Text) where
   is_path : (b : Bool) → is_option word ≡ b → b ≡ false → create_options safe (word ∷ words) ≡ create_path safe (word ∷ words)

@@ -26,8 +26,8 @@ use Rattle.tcl_text.specs.declared.integer.Integers.{Integers}
 use Rattle.tcl_tree.specs.TreeOf.{tree_of}
 use Rattle.tcl_tree.specs.declared.tree.Tree.{Tree as Table}
 use Rattle.tcl_tree.specs.declared.tree.Place.{Place as TablePlace}
-use Rattle.tcl_entries.specs.Asking.{Asks, EndsIn, Leads, Steps, Styled}
-use Rattle.tcl_entries.proofs.Telling.{passes}
+use Rattle.tcl_calls.specs.Asking.{Asks, EndsIn, Leads, Steps, Styled}
+use Rattle.tcl_calls.proofs.EntryTelling.{passes}
 use Rattle.tcl_interp.specs.Deleting.{Deletes}
 use Rattle.tcl_interp.specs.Failing.{FailsSo}
 

@@ -12,9 +12,9 @@ use Rattle.tcl_run.proofs.Endings.{Interrupts-more}
 use Rattle.tcl_text.specs.declared.integer.Integers.{Integers}
 use Rattle.tcl_tree.specs.declared.tree.Tree.{Tree as Table}
 use Rattle.tcl_tree.specs.declared.tree.Place.{Place as TablePlace}
-use Rattle.tcl_entries.specs.Asking.{Styled}
-use Rattle.tcl_entries.specs.Looking.{Finds, GetsTo, GetsToEnd}
-use Rattle.tcl_entries.proofs.Looks.{gets_as, gets_end, looks_then, passes_evaluates}
+use Rattle.tcl_calls.specs.Asking.{Styled}
+use Rattle.tcl_calls.specs.Looking.{Finds, GetsTo, GetsToEnd}
+use Rattle.tcl_calls.proofs.Looks.{gets_as, gets_end, looks_then, passes_evaluates}
 use Rattle.tcl_interp.specs.Subjects.{About, on_child, on_itself, on_path, path_text, reached}
 
 -- ## Steps that find something

@@ -14,10 +14,10 @@ ghost use Rattle.tcl_value.specs.Limits.{IsWithin};
 ghost use Rattle.tcl_interp.specs.Failing.{FailsSo};
 
 use std::alloc::{AllocError, Global};
-use tcl_entries::looking::{names_of, stands};
-use tcl_entries::questions::node;
-use tcl_entries::requests::ask_telling;
-use tcl_entries::serving::child_name;
+use tcl_calls::looking::{names_of, stands};
+use tcl_calls::questions::node;
+use tcl_calls::requests::ask_telling;
+use tcl_calls::serving::child_name;
 use tcl_run::entry::OwnEntry;
 use tcl_run::failure::{bad_name, bad_option, wrong_args};
 use tcl_run::interruption::Interruption;

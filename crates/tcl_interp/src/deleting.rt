@@ -2,12 +2,12 @@
 ghost use Rattle.tcl_core.specs.Entries.Entry.{Delete};
 ghost use Rattle.tcl_language.specs.Interpreters as interpreters;
 ghost use Rattle.tcl_run.specs.Runs.{Evaluates, IsHere, IsRunning, KeepsAndLoses};
-ghost use Rattle.tcl_entries.specs.Asking.{Steps};
+ghost use Rattle.tcl_calls.specs.Asking.{Steps};
 ghost use Rattle.tcl_interp.specs.Deleting.{Deletes};
 
 use std::alloc::Global;
-use tcl_entries::asking::{ask, path_at};
-use tcl_entries::failure::in_use;
+use tcl_calls::asking::{ask, path_at};
+use tcl_calls::failure::in_use;
 use tcl_flow::completion::OK;
 use tcl_run::entry::OwnEntry;
 use tcl_run::interruption::Interruption;

@@ -7,8 +7,8 @@ ghost use Rattle.tcl_run.specs.Runs.{Evaluates, IsHere, IsRunning, KeepsAndLoses
 
 use crate::questions::ask_about;
 use std::alloc::Global;
-use tcl_entries::looking::names_of;
-use tcl_entries::requests::ask_at;
+use tcl_calls::looking::names_of;
+use tcl_calls::requests::ask_at;
 use tcl_run::entry::{OwnEntry, Question};
 use tcl_run::interruption::Interruption;
 use tcl_run::outside::Outside;

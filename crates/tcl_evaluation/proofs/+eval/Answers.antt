@@ -58,7 +58,7 @@ use Rattle.tcl_prepared.specs.declared.prepared.PreparedWord.{PreparedWord}
 use Rattle.tcl_prepared.specs.declared.prepared.PreparedCommand.{PreparedCommand}
 use Rattle.tcl_evaluation.specs.View.{GoesOn}
 use Rattle.tcl_value.specs.Texts.{AllWithin}
-use Rattle.tcl_entries.proofs.Reached.{never_outside}
+use Rattle.tcl_calls.proofs.Reached.{never_outside}
 use Rattle.tcl_core.specs.Programs.Prog.{done}
 use Rattle.tcl_language.specs.Interpreters.{asks_at}
 use Rattle.tcl_language.specs.Words.{concat}
@@ -116,7 +116,7 @@ use Rattle.tcl_language.specs.Interpreters.{asks_trusted, interp as interp_progr
 use Rattle.tcl_language.specs.Naming.{command_name}
 use Rattle.tcl_language.specs.Table.{child_name, builtin as builtin_program}
 use Rattle.tcl_evaluation.specs.View.{Asks}
-use Rattle.tcl_entries.specs.Looking.{GetsToEnd}
+use Rattle.tcl_calls.specs.Looking.{GetsToEnd}
 use Rattle.tcl_interp.specs.Programs.{evals, evaluates, invokes, program_of}
 use Rattle.tcl_interp.specs.Subcommands.{tree_program_of}
 use Rattle.tcl_interp.specs.Subjects.{about, on_child, path_text, reached}

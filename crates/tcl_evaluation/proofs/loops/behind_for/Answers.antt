@@ -1,6 +1,6 @@
 use Rattle.std.proofs.Common.{◌-◌, ◌∷◌, length, take, drop, sym, ◌∙◌, ap}
 use Rattle.std.specs.Prelude.{codes}
-use Rattle.tcl_entries.proofs.Looks.{is_word, is_no_word, untrue}
+use Rattle.tcl_calls.proofs.Looks.{is_word, is_no_word, untrue}
 use Rattle.tcl_language.specs.Changes as changes
 use Rattle.tcl_language.specs.Instructions.{either}
 use Rattle.tcl_language.specs.Pairing as pairing

@@ -3,8 +3,8 @@ use Rattle.std.specs.Prelude.{codes}
 use Rattle.tcl_core.specs.Paths.{Text}
 use Rattle.tcl_language.specs.Faults.{wrong_args}
 use Rattle.tcl_language.specs.Interpreters.{alias_form}
-use Rattle.tcl_entries.proofs.Looks.{untrue}
-use Rattle.tcl_entries.proofs.Telling.{evaluates_as, fails_told}
+use Rattle.tcl_calls.proofs.Looks.{untrue}
+use Rattle.tcl_calls.proofs.EntryTelling.{evaluates_as, fails_told}
 use Rattle.tcl_text.proofs.Emptiness.{some_is, zero_is}
 use Rattle.tcl_text.proofs.Items.{no_item, one_item}
 use Rattle.tcl_interp.specs.Programs.{aliases, gives_alias}

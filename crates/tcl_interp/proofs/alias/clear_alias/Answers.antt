@@ -1,7 +1,7 @@
 use Rattle.std.proofs.Common.{[], ◌∷◌, sym, ap}
 use Rattle.tcl_core.specs.Entries.Entry.{ClearAlias}
 use Rattle.tcl_core.specs.Paths.{Text}
-use Rattle.tcl_entries.proofs.Telling.{evaluates_as}
+use Rattle.tcl_calls.proofs.EntryTelling.{evaluates_as}
 use Rattle.tcl_interp.specs.Programs.{aliases}
 use Rattle.tcl_interp.specs.Subjects.{about, asks_of}
 use Rattle.tcl_interp.proofs.alias.clear_alias.Goals as goal

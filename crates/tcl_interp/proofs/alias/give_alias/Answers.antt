@@ -1,5 +1,5 @@
 use Rattle.std.proofs.Common.{[], ◌∷◌, ap}
-use Rattle.tcl_entries.proofs.Telling.{evaluates_as}
+use Rattle.tcl_calls.proofs.EntryTelling.{evaluates_as}
 use Rattle.tcl_interp.specs.Programs.{given, gives_alias}
 use Rattle.tcl_interp.specs.Subjects.{About, about, on_path}
 use Rattle.tcl_interp.proofs.Forms.{given_by_child, given_by_itself}

@@ -2,7 +2,7 @@ use Rattle.std.proofs.Common.{◌∙◌, List, ◌∷◌, ◌++◌, ap}
 use Rattle.tcl_core.specs.Entries.Entry.{SetAlias}
 use Rattle.tcl_core.specs.Paths.{Text}
 use Rattle.tcl_language.specs.Interpreters.{asks_at, with_text}
-use Rattle.tcl_entries.proofs.Telling.{evaluates_as}
+use Rattle.tcl_calls.proofs.EntryTelling.{evaluates_as}
 use Rattle.tcl_interp.specs.Programs.{given}
 use Rattle.tcl_interp.proofs.Forms.{given_asked}
 use Rattle.tcl_interp.proofs.alias.set_alias.Goals as goal

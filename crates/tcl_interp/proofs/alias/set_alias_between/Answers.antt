@@ -6,8 +6,8 @@ use Rattle.tcl_language.specs.Interpreters.{alias_path, at_path}
 use Rattle.tcl_run.specs.Runs.{Evaluates}
 use Rattle.tcl_text.specs.Lists.{list_of}
 use Rattle.tcl_text.specs.Writing.{fault_message}
-use Rattle.tcl_entries.specs.Asking.{Styled}
-use Rattle.tcl_entries.proofs.Looks.{gets_evaluates}
+use Rattle.tcl_calls.specs.Asking.{Styled}
+use Rattle.tcl_calls.proofs.Looks.{gets_evaluates}
 use Rattle.tcl_interp.specs.Programs.{given}
 use Rattle.tcl_interp.proofs.Subjects.{found_out}
 use Rattle.tcl_interp.proofs.alias.set_alias_between.Goals as goal

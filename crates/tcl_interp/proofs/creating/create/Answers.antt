@@ -1,7 +1,7 @@
 use Rattle.std.proofs.Common.{false, refl}
 use Rattle.std.proofs.lemmas.Result.{err_from_is_err_and}
 use Rattle.tcl_language.specs.Interpreters as interpreters
-use Rattle.tcl_entries.proofs.Telling.{evaluates_as}
+use Rattle.tcl_calls.proofs.EntryTelling.{evaluates_as}
 use Rattle.tcl_interp.proofs.Stepping.{fails_passed}
 use Rattle.tcl_interp.proofs.creating.create.Goals as goal
 

@@ -1,7 +1,7 @@
 use Rattle.std.proofs.Common.{◌-◌, length, take, []}
 use Rattle.tcl_language.specs.Faults.{bad_name}
 use Rattle.tcl_language.specs.Interpreters as interpreters
-use Rattle.tcl_entries.proofs.Telling.{evaluates_as, fails_told}
+use Rattle.tcl_calls.proofs.EntryTelling.{evaluates_as, fails_told}
 use Rattle.tcl_interp.proofs.Forms.{last_made, none_made}
 use Rattle.tcl_interp.proofs.creating.create_at.Goals as goal
 

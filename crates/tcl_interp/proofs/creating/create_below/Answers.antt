@@ -5,9 +5,9 @@ use Rattle.tcl_core.specs.Paths.{Text}
 use Rattle.tcl_language.specs.Interpreters as interpreters
 use Rattle.tcl_language.specs.Interpreters.{asks_at, with_text}
 use Rattle.tcl_run.proofs.Endings.{Interrupts-more}
-use Rattle.tcl_entries.specs.Looking.{GetsToEnd}
-use Rattle.tcl_entries.proofs.Looks.{gets_evaluates, passes_evaluates}
-use Rattle.tcl_entries.proofs.Telling.{evaluates_as}
+use Rattle.tcl_calls.specs.Looking.{GetsToEnd}
+use Rattle.tcl_calls.proofs.Looks.{gets_evaluates, passes_evaluates}
+use Rattle.tcl_calls.proofs.EntryTelling.{evaluates_as}
 use Rattle.tcl_interp.proofs.creating.create_below.Goals as goal
 
 pub returns-in_err-stands-clause-evaluates : goal.returns-in_err-stands-clause-evaluates

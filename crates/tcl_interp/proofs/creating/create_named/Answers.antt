@@ -1,7 +1,7 @@
 use Rattle.std.proofs.Common.{[], ◌∷◌, ap}
 use Rattle.tcl_language.specs.Faults.{wrong_args}
 use Rattle.tcl_language.specs.Interpreters as interpreters
-use Rattle.tcl_entries.proofs.Telling.{evaluates_as, fails_told}
+use Rattle.tcl_calls.proofs.EntryTelling.{evaluates_as, fails_told}
 use Rattle.tcl_text.proofs.Items.{one_item}
 use Rattle.tcl_interp.proofs.Forms.{create_none, create_wrong}
 use Rattle.tcl_interp.proofs.creating.create_named.Goals as goal

@@ -7,8 +7,8 @@ use Rattle.tcl_run.specs.Runs.{Evaluates}
 use Rattle.tcl_run.proofs.Endings.{Interrupts-more}
 use Rattle.tcl_text.specs.Lists.{list_of}
 use Rattle.tcl_text.specs.Writing.{fault_message}
-use Rattle.tcl_entries.specs.Looking.{GetsToEnd}
-use Rattle.tcl_entries.proofs.Looks.{gets_evaluates, passes_evaluates}
+use Rattle.tcl_calls.specs.Looking.{GetsToEnd}
+use Rattle.tcl_calls.proofs.Looks.{gets_evaluates, passes_evaluates}
 use Rattle.tcl_interp.proofs.creating.create_there.Goals as goal
 
 pub returns-in_err-names-clause-evaluates : goal.returns-in_err-names-clause-evaluates

@@ -3,8 +3,8 @@ use Rattle.tcl_core.specs.Entries.Entry.{Create}
 use Rattle.tcl_core.specs.Paths.{Text}
 use Rattle.tcl_language.specs.Interpreters as interpreters
 use Rattle.tcl_language.specs.Interpreters.{asks_at, with_text}
-use Rattle.tcl_entries.proofs.Looks.{gets_evaluates}
-use Rattle.tcl_entries.proofs.Telling.{evaluates_as}
+use Rattle.tcl_calls.proofs.Looks.{gets_evaluates}
+use Rattle.tcl_calls.proofs.EntryTelling.{evaluates_as}
 use Rattle.tcl_interp.proofs.Forms.{unnamed_goes}
 use Rattle.tcl_interp.proofs.creating.create_unnamed.Goals as goal
 

@@ -3,7 +3,7 @@ use Rattle.std.proofs.lemmas.Result.{err_from_is_err_and}
 use Rattle.tcl_language.specs.Interpreters as interpreters
 use Rattle.tcl_run.proofs.Keeping.{loses-trans}
 use Rattle.tcl_run.proofs.Steady.{here-trans, still_running}
-use Rattle.tcl_entries.proofs.Telling.{passes}
+use Rattle.tcl_calls.proofs.EntryTelling.{passes}
 use Rattle.tcl_text.proofs.Items.{item_on, none_on}
 use Rattle.tcl_interp.proofs.Stepping.{leads_then, leads_end, leads_done}
 use Rattle.tcl_interp.proofs.deleting.delete.Goals as goal

@@ -1,7 +1,7 @@
 use Rattle.std.proofs.Common.{drop}
 use Rattle.tcl_language.specs.Interpreters as interpreters
 use Rattle.tcl_run.specs.Runs.{IsHere, KeepsAndLoses}
-use Rattle.tcl_entries.specs.Asking.{Leads}
+use Rattle.tcl_calls.specs.Asking.{Leads}
 use Rattle.tcl_interp.proofs.deleting.delete.Given as goal
 
 abbrev pub invariant-paths : goal.invariant-paths

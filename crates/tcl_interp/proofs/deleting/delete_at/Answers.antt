@@ -3,7 +3,7 @@ use Rattle.tcl_core.specs.Endings.Reply.{Completed}
 use Rattle.tcl_core.specs.Paths.{Text}
 use Rattle.tcl_language.specs.Interpreters as interpreters
 use Rattle.tcl_run.specs.Ends.{Interrupts, failing}
-use Rattle.tcl_entries.proofs.Telling.{fails_told}
+use Rattle.tcl_calls.proofs.EntryTelling.{fails_told}
 use Rattle.tcl_interp.proofs.Forms.{last_deleted, none_deleted}
 use Rattle.tcl_interp.proofs.Stepping.{steps_as}
 use Rattle.tcl_interp.proofs.deleting.delete_at.Goals as goal

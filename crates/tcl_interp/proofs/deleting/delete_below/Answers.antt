@@ -1,7 +1,7 @@
 use Rattle.std.proofs.Common.{subst}
 use Rattle.tcl_core.specs.Entries.Entry.{Delete}
 use Rattle.tcl_core.specs.Paths.{Text}
-use Rattle.tcl_entries.specs.Asking.{Asks}
+use Rattle.tcl_calls.specs.Asking.{Asks}
 use Rattle.tcl_interp.proofs.Stepping.{deletes_steps}
 use Rattle.tcl_interp.proofs.deleting.delete_below.Goals as goal
 

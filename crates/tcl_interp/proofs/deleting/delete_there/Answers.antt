@@ -4,8 +4,8 @@ use Rattle.tcl_core.specs.Paths.{Path}
 use Rattle.tcl_language.specs.Interpreters as interpreters
 use Rattle.tcl_run.proofs.Endings.{Interrupts-more}
 use Rattle.tcl_tree.specs.TreeOf.{tree_of}
-use Rattle.tcl_entries.specs.Asking.{EndsIn, Steps}
-use Rattle.tcl_entries.proofs.Looks.{ends_so, gets_leads}
+use Rattle.tcl_calls.specs.Asking.{EndsIn, Steps}
+use Rattle.tcl_calls.proofs.Looks.{ends_so, gets_leads}
 use Rattle.tcl_interp.proofs.Stepping.{steps_after, steps_pass}
 use Rattle.tcl_interp.proofs.deleting.delete_there.Goals as goal
 

@@ -2,7 +2,7 @@ use Rattle.std.proofs.Common.{◌⊎◌, inl, inr, ◌<◌, ◌≤◌, [], ◌�
 use Rattle.std.specs.Prelude.{codes}
 use Rattle.tcl_core.specs.Entries.Question.{Exists}
 use Rattle.tcl_language.specs.Interpreters as interpreters
-use Rattle.tcl_entries.proofs.Telling.{evaluates_as}
+use Rattle.tcl_calls.proofs.EntryTelling.{evaluates_as}
 use Rattle.tcl_text.proofs.Items.{one_item}
 use Rattle.tcl_interp.proofs.Forms.{exists_asked}
 use Rattle.tcl_interp.proofs.existing.exists.Goals.{in_default-via-then-args-lt1, in_default-via-else-args-lt1+else-args-lt2}

@@ -7,8 +7,8 @@ use Rattle.tcl_core.specs.Programs.Prog.{done, act}
 use Rattle.tcl_language.specs.Interpreters as interpreters
 use Rattle.tcl_language.specs.Interpreters.{asks_at}
 use Rattle.std.specs.Prelude.{Ok}
-use Rattle.tcl_entries.proofs.Looks.{gets_evaluates, told_evaluates}
-use Rattle.tcl_entries.proofs.Reached.{never_outside}
+use Rattle.tcl_calls.proofs.Looks.{gets_evaluates, told_evaluates}
+use Rattle.tcl_calls.proofs.Reached.{never_outside}
 use Rattle.tcl_interp.proofs.Forms.{exists_goes, exists_not}
 use Rattle.tcl_interp.proofs.existing.exists_at.Goals as goal
 

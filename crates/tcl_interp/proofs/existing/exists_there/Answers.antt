@@ -6,8 +6,8 @@ use Rattle.tcl_core.specs.Programs.Prog.{act}
 use Rattle.tcl_language.specs.Interpreters as interpreters
 use Rattle.tcl_run.specs.Runs.{Evaluates}
 use Rattle.tcl_run.proofs.Endings.{Interrupts-more}
-use Rattle.tcl_entries.specs.Looking.{GetsToEnd}
-use Rattle.tcl_entries.proofs.Looks.{gets_evaluates, passes_evaluates}
+use Rattle.tcl_calls.specs.Looking.{GetsToEnd}
+use Rattle.tcl_calls.proofs.Looks.{gets_evaluates, passes_evaluates}
 use Rattle.tcl_interp.proofs.existing.exists_there.Goals as goal
 
 pub returns-in_err-names-clause-evaluates : goal.returns-in_err-names-clause-evaluates

@@ -1,7 +1,7 @@
 use Rattle.std.proofs.Common.{◌⊎◌, inl, inr, ◌<◌, ◌≤◌, length, ap, rules}
 use Rattle.tcl_language.specs.Faults.{wrong_args}
 use Rattle.tcl_language.specs.Interpreters.{asks_trusted}
-use Rattle.tcl_entries.proofs.Telling.{evaluates_as, fails_told}
+use Rattle.tcl_calls.proofs.EntryTelling.{evaluates_as, fails_told}
 use Rattle.tcl_text.proofs.Items.{one_item, two_items}
 use Rattle.tcl_interp.specs.Programs.{hides_or_exposes, hiding_entry, hiding_forms}
 use Rattle.tcl_interp.specs.Subjects.{about, path_text}

@@ -2,7 +2,7 @@ use Rattle.std.proofs.Common.{sym, ap}
 use Rattle.tcl_core.specs.Entries.{Entry}
 use Rattle.tcl_language.specs.Interpreters.{asks_trusted}
 use Rattle.tcl_run.specs.Entering.{entry_of}
-use Rattle.tcl_entries.proofs.Telling.{evaluates_as}
+use Rattle.tcl_calls.proofs.EntryTelling.{evaluates_as}
 use Rattle.tcl_interp.specs.Programs.{hiding_entry}
 use Rattle.tcl_interp.specs.Subjects.{about, path_text}
 use Rattle.tcl_interp.proofs.hiding.hide_or_expose_as.Goals as goal

@@ -1,5 +1,5 @@
 use Rattle.std.proofs.Common.{subst, sym}
-use Rattle.tcl_entries.specs.Looking.{Passes}
+use Rattle.tcl_calls.specs.Looking.{Passes}
 use Rattle.tcl_interp.specs.Programs.{allowed}
 use Rattle.tcl_interp.specs.declared.limits.LimitOf.{LimitOf}
 use Rattle.tcl_interp.proofs.limits.allow.Goals as goal

@@ -1,6 +1,6 @@
 use Rattle.tcl_language.specs.Interpreters as interpreters
 use Rattle.tcl_run.proofs.Endings.{Interrupts-more}
-use Rattle.tcl_entries.proofs.Looks.{gets_as, gets_failed}
+use Rattle.tcl_calls.proofs.Looks.{gets_as, gets_failed}
 use Rattle.tcl_interp.proofs.Limiting.{below_goes, below_denied}
 use Rattle.tcl_interp.proofs.limits.below_itself.Goals as goal
 

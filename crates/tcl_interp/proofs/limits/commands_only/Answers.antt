@@ -6,7 +6,7 @@ use Rattle.tcl_language.specs.Interpreters as interpreters
 use Rattle.tcl_run.specs.Ends.{failing}
 use Rattle.tcl_run.proofs.Endings.{Interrupts-more}
 use Rattle.std.specs.Str.{bytes_eq}
-use Rattle.tcl_entries.proofs.Looks.{goes_true, fails_false, is_word, is_no_word, untrue}
+use Rattle.tcl_calls.proofs.Looks.{goes_true, fails_false, is_word, is_no_word, untrue}
 use Rattle.tcl_interp.proofs.limits.commands_only.Goals as goal
 
 pub returns-then-is_text : goal.returns-then-is_text

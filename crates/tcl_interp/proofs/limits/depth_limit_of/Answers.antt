@@ -2,7 +2,7 @@ use Rattle.std.proofs.Common.{[], ap}
 use Rattle.tcl_core.specs.Entries.Entry.{Ask}
 use Rattle.tcl_core.specs.Entries.Question.{DepthLimitOf}
 use Rattle.tcl_language.specs.Faults.{wrong_args}
-use Rattle.tcl_entries.proofs.Telling.{evaluates_as, fails_told}
+use Rattle.tcl_calls.proofs.EntryTelling.{evaluates_as, fails_told}
 use Rattle.tcl_interp.specs.Programs.{depth_form, depth_of, depths}
 use Rattle.tcl_interp.specs.Subjects.{about, asks_of}
 use Rattle.tcl_interp.proofs.Forms.{depth_of_child, depth_of_path}

@@ -2,7 +2,7 @@ use Rattle.std.proofs.Common.{◌≡◌, ◌⊎◌, inl, inr, ◌<◌, ◌≤◌
 use Rattle.std.specs.Prelude.{codes}
 use Rattle.tcl_language.specs.Faults.{wrong_args}
 use Rattle.tcl_language.specs.Interpreters.{limit_form}
-use Rattle.tcl_entries.proofs.Telling.{evaluates_as, fails_told}
+use Rattle.tcl_calls.proofs.EntryTelling.{evaluates_as, fails_told}
 use Rattle.tcl_text.proofs.Items.{one_item, three_items}
 use Rattle.tcl_interp.specs.Programs.{limits}
 use Rattle.tcl_interp.specs.Subjects.{about, form_of}

@@ -3,7 +3,7 @@ use Rattle.std.proofs.lemmas.Result.{err_from_is_err_and}
 use Rattle.tcl_core.specs.Entries.Entry.{Ask}
 use Rattle.tcl_core.specs.Entries.Question.{CountLimitOf}
 use Rattle.tcl_language.specs.Interpreters.{commands_only}
-use Rattle.tcl_entries.proofs.Looks.{gets_evaluates}
+use Rattle.tcl_calls.proofs.Looks.{gets_evaluates}
 use Rattle.tcl_interp.specs.Programs.{limits}
 use Rattle.tcl_interp.specs.Subjects.{about, asks_of}
 use Rattle.tcl_interp.proofs.Subjects.{passed_out}

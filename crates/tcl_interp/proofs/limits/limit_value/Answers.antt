@@ -6,7 +6,7 @@ use Rattle.std.proofs.Common.{Some}
 use Rattle.std.proofs.lemmas.Result.{err_from_is_err_and}
 use Rattle.tcl_text.specs.Numbers.{integer_of}
 use Rattle.tcl_text.proofs.Fitting.{handed}
-use Rattle.tcl_entries.proofs.Looks.{gets_as, gets_end, gets_failed, looks_then, is_program, untrue}
+use Rattle.tcl_calls.proofs.Looks.{gets_as, gets_end, gets_failed, looks_then, is_program, untrue}
 use Rattle.tcl_interp.proofs.Limiting.{no_limit, limit_fails, limit_goes}
 use Rattle.tcl_interp.proofs.limits.limit_value.Goals as goal
 

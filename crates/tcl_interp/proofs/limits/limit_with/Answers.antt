@@ -1,8 +1,8 @@
 use Rattle.std.proofs.Common.{[], ◌∷◌}
 use Rattle.std.proofs.lemmas.Result.{err_from_is_err_and}
 use Rattle.tcl_language.specs.Interpreters.{commands_only, value_only}
-use Rattle.tcl_entries.specs.Asking.{Styled}
-use Rattle.tcl_entries.proofs.Looks.{gets_evaluates}
+use Rattle.tcl_calls.specs.Asking.{Styled}
+use Rattle.tcl_calls.proofs.Looks.{gets_evaluates}
 use Rattle.tcl_interp.specs.Programs.{limits, sets}
 use Rattle.tcl_interp.specs.Subjects.{about}
 use Rattle.tcl_interp.specs.declared.limits.LimitOf.TheVariants.{Steps}

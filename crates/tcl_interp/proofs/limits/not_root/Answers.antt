@@ -3,7 +3,7 @@ use Rattle.tcl_core.specs.Trees.{Node}
 use Rattle.tcl_language.specs.Interpreters as interpreters
 use Rattle.tcl_run.proofs.Endings.{Interrupts-more}
 use Rattle.tcl_tree.specs.Own.{Own}
-use Rattle.tcl_entries.proofs.Looks.{node_fails, node_passes}
+use Rattle.tcl_calls.proofs.Looks.{node_fails, node_passes}
 use Rattle.tcl_interp.proofs.limits.not_root.Goals as goal
 
 pub returns-then-node : goal.returns-then-node

@@ -1,7 +1,7 @@
 use Rattle.std.proofs.Common.{[], ap}
 use Rattle.std.specs.Prelude.{codes}
 use Rattle.tcl_language.specs.Faults.{wrong_args}
-use Rattle.tcl_entries.proofs.Telling.{evaluates_as, fails_told}
+use Rattle.tcl_calls.proofs.EntryTelling.{evaluates_as, fails_told}
 use Rattle.tcl_text.proofs.Items.{no_item, one_item}
 use Rattle.tcl_interp.specs.Programs.{depth_form, depths, sets}
 use Rattle.tcl_interp.specs.Subjects.{about, form_of}

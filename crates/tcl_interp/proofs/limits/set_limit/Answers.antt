@@ -5,8 +5,8 @@ use Rattle.tcl_core.specs.Programs.Prog.{done}
 use Rattle.tcl_language.specs.Interpreters.{asks_at, permitted}
 use Rattle.tcl_run.specs.Entering.{entry_of}
 use Rattle.tcl_run.specs.Runs.{Evaluates}
-use Rattle.tcl_entries.specs.Asking.{Styled}
-use Rattle.tcl_entries.proofs.Looks.{gets_evaluates}
+use Rattle.tcl_calls.specs.Asking.{Styled}
+use Rattle.tcl_calls.proofs.Looks.{gets_evaluates}
 use Rattle.tcl_interp.specs.Programs.{settable, sets, to_limit}
 use Rattle.tcl_interp.specs.Subjects.{about}
 use Rattle.tcl_interp.proofs.Subjects.{found_out, passed_out}

@@ -1,5 +1,5 @@
 use Rattle.std.proofs.Common.{ap}
-use Rattle.tcl_entries.proofs.Looks.{gets_as}
+use Rattle.tcl_calls.proofs.Looks.{gets_as}
 use Rattle.tcl_interp.specs.Programs.{settable}
 use Rattle.tcl_interp.specs.Subjects.{About, about, on_path}
 use Rattle.tcl_interp.proofs.Limiting.{settable_child, settable_itself}

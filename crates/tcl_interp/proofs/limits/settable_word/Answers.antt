@@ -5,9 +5,9 @@ use Rattle.tcl_core.specs.Programs.Act.{Look}
 use Rattle.tcl_core.specs.Programs.Prog.{act}
 use Rattle.tcl_language.specs.Interpreters.{where_it_stands}
 use Rattle.tcl_run.proofs.Endings.{ended_err}
-use Rattle.tcl_entries.specs.Asking.{Styled}
-use Rattle.tcl_entries.specs.Looking.{GetsTo, GetsToEnd}
-use Rattle.tcl_entries.proofs.Looks.{gets_end, looks_then}
+use Rattle.tcl_calls.specs.Asking.{Styled}
+use Rattle.tcl_calls.specs.Looking.{GetsTo, GetsToEnd}
+use Rattle.tcl_calls.proofs.Looks.{gets_end, looks_then}
 use Rattle.tcl_interp.specs.Programs.{allowed, settable_at}
 use Rattle.tcl_interp.proofs.limits.settable_word.Goals as goal
 

@@ -2,7 +2,7 @@ use Rattle.std.proofs.Common.{ap}
 use Rattle.std.proofs.lemmas.Result.{err_from_is_err_and}
 use Rattle.tcl_core.specs.Entries.Entry.{SetCountLimit, SetDepthLimit}
 use Rattle.tcl_run.proofs.Endings.{ended_err}
-use Rattle.tcl_entries.proofs.Looks.{gets_as, gets_end, looks_then}
+use Rattle.tcl_calls.proofs.Looks.{gets_as, gets_end, looks_then}
 use Rattle.tcl_interp.specs.Programs.{to_limit}
 use Rattle.tcl_interp.specs.declared.limits.LimitOf.{LimitOf}
 use Rattle.tcl_interp.specs.declared.limits.LimitOf.TheVariants.{Steps, Depth}

@@ -1,5 +1,5 @@
 use Rattle.tcl_language.specs.Interpreters as interpreters
-use Rattle.tcl_entries.proofs.Looks.{gets_as}
+use Rattle.tcl_calls.proofs.Looks.{gets_as}
 use Rattle.tcl_interp.proofs.Limiting.{unless_goes}
 use Rattle.tcl_interp.proofs.limits.unless_root.Goals as goal
 

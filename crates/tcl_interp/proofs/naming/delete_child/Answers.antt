@@ -1,7 +1,7 @@
 use Rattle.std.proofs.Common.{Some}
 use Rattle.std.proofs.lemmas.Result.{err_from_is_err_and}
 use Rattle.tcl_language.specs.Definitions as definitions
-use Rattle.tcl_entries.proofs.Telling.{passes}
+use Rattle.tcl_calls.proofs.EntryTelling.{passes}
 use Rattle.tcl_interp.proofs.Stepping.{deleted_done, deleted_end}
 use Rattle.tcl_interp.proofs.naming.delete_child.Goals as goal
 

@@ -2,7 +2,7 @@ use Rattle.std.proofs.Common.{◌⊎◌, inl, inr, ◌<◌, ◌≤◌, [], ◌�
 use Rattle.std.specs.Prelude.{codes}
 use Rattle.tcl_language.specs.Definitions as definitions
 use Rattle.tcl_language.specs.Faults.{wrong_args}
-use Rattle.tcl_entries.proofs.Telling.{evaluates_as, fails_told}
+use Rattle.tcl_calls.proofs.EntryTelling.{evaluates_as, fails_told}
 use Rattle.tcl_text.proofs.Items.{two_items}
 use Rattle.tcl_interp.proofs.Forms.{rename_wrong}
 use Rattle.tcl_interp.proofs.naming.rename.Goals.{in_default-via-then-args-lt2, in_default-via-else-args-lt2+else-args-lt3}

@@ -4,8 +4,8 @@ use Rattle.tcl_language.specs.Interpreters.{done_so, renaming}
 use Rattle.tcl_language.specs.Naming.{renamed}
 use Rattle.tcl_run.proofs.Keeping.{level_loses}
 use Rattle.tcl_run.proofs.Steady.{level_here}
-use Rattle.tcl_entries.proofs.Looks.{untrue}
-use Rattle.tcl_entries.proofs.Telling.{evaluates_as}
+use Rattle.tcl_calls.proofs.Looks.{untrue}
+use Rattle.tcl_calls.proofs.EntryTelling.{evaluates_as}
 use Rattle.tcl_interp.proofs.Forms.{renamed_away, renamed_other}
 use Rattle.tcl_interp.proofs.Stepping.{acts_evaluates}
 use Rattle.tcl_interp.proofs.naming.rename_as.Goals as goal

@@ -6,10 +6,10 @@ use Rattle.tcl_language.specs.Naming.{command_name, removed}
 use Rattle.tcl_run.proofs.Endings.{Interrupts-more}
 use Rattle.tcl_run.proofs.Keeping.{level_loses}
 use Rattle.tcl_run.proofs.Steady.{level_here}
-use Rattle.tcl_entries.specs.Asking.{EndsIn}
+use Rattle.tcl_calls.specs.Asking.{EndsIn}
 use Rattle.tcl_tree.specs.TreeOf.{tree_of}
-use Rattle.tcl_entries.proofs.Looks.{gets_evaluates}
-use Rattle.tcl_entries.proofs.Telling.{passes}
+use Rattle.tcl_calls.proofs.Looks.{gets_evaluates}
+use Rattle.tcl_calls.proofs.EntryTelling.{passes}
 use Rattle.tcl_interp.proofs.Forms.{child_goes, child_is_named, removed_goes}
 use Rattle.tcl_interp.proofs.Stepping.{acts_evaluates}
 use Rattle.tcl_interp.proofs.naming.take_away.Goals as goal

@@ -2,7 +2,7 @@ use Rattle.std.proofs.Common.{List, ap, ◌∙◌}
 use Rattle.tcl_core.specs.Paths.{Text}
 use Rattle.tcl_language.specs.Interpreters as interpreters
 use Rattle.tcl_run.specs.Entering.{question_of}
-use Rattle.tcl_entries.proofs.Telling.{evaluates_as}
+use Rattle.tcl_calls.proofs.EntryTelling.{evaluates_as}
 use Rattle.tcl_interp.specs.Programs.{questions}
 use Rattle.tcl_interp.specs.Subjects.{About, about}
 use Rattle.tcl_interp.proofs.Programs.{question_split}

@@ -2,7 +2,7 @@ use Rattle.std.proofs.Common.{length}
 use Rattle.tcl_core.specs.Entries.Entry.{Ask}
 use Rattle.tcl_language.specs.Faults.{wrong_args}
 use Rattle.tcl_run.specs.Entering.{question_of}
-use Rattle.tcl_entries.proofs.Telling.{evaluates_as, fails_told}
+use Rattle.tcl_calls.proofs.EntryTelling.{evaluates_as, fails_told}
 use Rattle.tcl_text.proofs.Emptiness.{some_is, zero_is}
 use Rattle.tcl_interp.specs.Programs.{questions}
 use Rattle.tcl_interp.specs.Subjects.{about, asks_of, form_of}

@@ -5,7 +5,7 @@ use Rattle.tcl_core.specs.Programs.Prog.{done}
 use Rattle.tcl_language.specs.Interpreters.{asks_at}
 use Rattle.tcl_run.specs.Entering.{entry_of}
 use Rattle.tcl_run.specs.Runs.{Evaluates}
-use Rattle.tcl_entries.proofs.Looks.{gets_evaluates}
+use Rattle.tcl_calls.proofs.Looks.{gets_evaluates}
 use Rattle.tcl_interp.specs.Subjects.{about, asks_of, reached}
 use Rattle.tcl_interp.proofs.Subjects.{found_out}
 use Rattle.tcl_interp.proofs.subject.ask_subject.Goals as goal

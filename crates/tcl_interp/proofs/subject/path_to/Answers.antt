@@ -1,6 +1,6 @@
 use Rattle.std.proofs.Common.{ap}
 use Rattle.tcl_language.specs.Interpreters.{at_path}
-use Rattle.tcl_entries.proofs.Looks.{gets_as}
+use Rattle.tcl_calls.proofs.Looks.{gets_as}
 use Rattle.tcl_interp.specs.Subjects.{about, path_text, reached}
 use Rattle.tcl_interp.proofs.Subjects.{finds_as, reached_child, reached_itself, reached_path}
 use Rattle.tcl_interp.proofs.subject.path_to.Goals as goal

@@ -1,7 +1,7 @@
 use Rattle.std.proofs.Common.{subst}
 use Rattle.tcl_core.specs.Paths.{Text}
 use Rattle.tcl_language.specs.Interpreters.{at_path}
-use Rattle.tcl_entries.specs.Looking.{Finds}
+use Rattle.tcl_calls.specs.Looking.{Finds}
 use Rattle.tcl_interp.proofs.subject.standing_path.Goals as goal
 
 pub returns : goal.returns

@@ -1,6 +1,0 @@
-use Rattle.std.proofs.Common.{◌∙◌, sym, arith}
-use Rattle.tcl_entries.proofs.Listed.{key_end}
-use Rattle.tcl_entries.proofs.questions.keys_of.Goals as goal
-
-pub returns : goal.returns
-returns g c = sym (key_end c.args.map.now.entries c.keys.index c.keys.names.items (omega (arith, c.len-index-end.ensures.len, c.keys-test.false))) ∙ c.keys.invariant

@@ -1,6 +1,0 @@
-use Rattle.std.proofs.Common.{◌≡◌, ◌++◌, drop}
-use Rattle.tcl_entries.specs.Listing.{first_of}
-use Rattle.tcl_entries.proofs.questions.keys_of.Given as goal
-
-abbrev pub invariant-keys : goal.invariant-keys
-invariant-keys g l = l.names.items ++ first_of (drop l.index l.map.entries) ≡ first_of l.map.entries

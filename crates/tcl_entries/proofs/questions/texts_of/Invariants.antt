@@ -1,5 +1,0 @@
-use Rattle.std.proofs.Common.{◌≡◌, take}
-use Rattle.tcl_entries.proofs.questions.texts_of.Given as goal
-
-abbrev pub invariant-values : goal.invariant-values
-invariant-values l = l.texts.items ≡ take l.value-index l.values
