@@ -33,7 +33,7 @@ use Rattle.tcl_text.specs.Writing.{fault_message}
 use Rattle.tcl_text.specs.declared.integer.Integers.{Integers}
 use Rattle.tcl_text.specs.declared.list.ListFault.{ListFault}
 use Rattle.tcl_tree.specs.Own.{Own}
-use Rattle.tcl_words_at_hand.proofs.Steps
+use Rattle.tcl_evaluation.proofs.Steps
 use Rattle.tcl_evaluation.proofs.Walking.{Sets, marked, not_failing, set_comes, set_through}
 
 -- ## The variables of a handler

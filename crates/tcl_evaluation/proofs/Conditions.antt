@@ -40,7 +40,7 @@ use Rattle.tcl_tree.specs.declared.tree.Tree.{Tree as Table}
 use Rattle.tcl_calls.specs.Expressions.{IsKept, IsRefused, settles}
 use Rattle.tcl_calls.specs.Turns.{After, EndsIn, Goes, Leaves, Turns}
 use Rattle.tcl_calls.specs.Words.{EndsBy}
-use Rattle.tcl_words_at_hand.proofs.Steps
+use Rattle.tcl_evaluation.proofs.Steps
 use Rattle.tcl_evaluation.specs.Conditional.{TurnGoes}
 
 -- an error goes no further

@@ -1,2 +1,2 @@
 -- How far a program comes, as the contracts of evaluations say it.
-pub use Rattle.tcl_words_at_hand.proofs.Steps.{EndsAt}
+pub use Rattle.tcl_evaluation.proofs.Steps.{EndsAt}

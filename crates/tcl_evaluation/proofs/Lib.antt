@@ -15,3 +15,12 @@ mod Staying
 mod Targets
 mod Walking
 mod Writing
+mod Alone
+pub mod HandCalling
+pub mod Computing
+pub mod Found
+pub mod Own
+pub mod HandPlainly
+mod Standing
+pub mod Steps
+mod Summing

@@ -19,7 +19,7 @@ use Rattle.tcl_run.specs.Runs.{Proceeds, Ways}
 use Rattle.tcl_run.proofs.Proceeding.{at_reply, goes_done}
 use Rattle.tcl_text.specs.declared.integer.Integers.{Integers}
 use Rattle.tcl_tree.specs.Own.{Own}
-use Rattle.tcl_words_at_hand.proofs.Steps
+use Rattle.tcl_evaluation.proofs.Steps
 
 -- an item of a list that is long enough
 pub item_at : (xs : List Text) (i : ℕ) (x : Text) → i < length xs → x ≡ get_or xs i x → x ≡ get_or xs i []

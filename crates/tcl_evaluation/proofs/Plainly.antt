@@ -25,8 +25,8 @@ use Rattle.tcl_tree.specs.declared.tree.Tree.{Tree as Table}
 use Rattle.tcl_tree.specs.declared.tree.Place.{Place as TablePlace}
 use Rattle.tcl_calls.specs.Looking.{LooksTo, here, looked, GetsTo, GetsToEnd}
 use Rattle.tcl_evaluation.specs.View.{Asks, GoesOn}
-use Rattle.tcl_words_at_hand.proofs.Steps.{EndsFrom, EndsAt}
-use Rattle.tcl_words_at_hand.proofs.Plainly.{there_at}
+use Rattle.tcl_evaluation.proofs.Steps.{EndsFrom, EndsAt}
+use Rattle.tcl_evaluation.proofs.HandPlainly.{there_at}
 
 -- what evaluates, and may lose the outside
 pub evaluates_proceeds : {S : Type 0} (ways : Ways S) (t u : Table) (o z : S) (place : TablePlace) (program : Integers → Program) (r : Result Text Interruption) →

@@ -41,7 +41,7 @@ use Rattle.tcl_evaluation.specs.Requests.{EndsAsking, Hears, HearsOn, ReadsScrip
 use Rattle.tcl_evaluation.specs.View.{Leads}
 use Rattle.tcl_evaluation.specs.Waiting.{EndsWait, HearsSo, Wherever, depth_there}
 use Rattle.tcl_evaluation.proofs.Awaited.{ends_out}
-use Rattle.tcl_words_at_hand.proofs.Steps.{EndsFrom}
+use Rattle.tcl_evaluation.proofs.Steps.{EndsFrom}
 
 -- ## One request
 

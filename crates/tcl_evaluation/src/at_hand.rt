@@ -4,8 +4,8 @@ ghost use Rattle.tcl_language.specs.Scripts as scripts;
 ghost use Rattle.tcl_prepared.specs.Views.{seen_word};
 ghost use Rattle.tcl_run.specs.Ends.{IfRan, OnCompletion};
 ghost use Rattle.tcl_run.specs.Runs.{IsHere, IsRunning, Keeps, ProceedsIn, ways};
-ghost use Rattle.tcl_words_at_hand.specs.Sums.{CallsAtHand, CallsBuiltin, CallsBuiltinAtHand};
-ghost use Rattle.tcl_words_at_hand.specs.Sums.{CallsNamed};
+ghost use Rattle.tcl_evaluation.specs.Sums.{CallsAtHand, CallsBuiltin, CallsBuiltinAtHand};
+ghost use Rattle.tcl_evaluation.specs.Sums.{CallsNamed};
 
 use crate::commands::{call_builtin, call_command};
 use std::alloc::Global;
@@ -18,9 +18,9 @@ use tcl_tree::builtin::Builtin;
 use tcl_tree::command::Command;
 use tcl_tree::tree::{Place, Tree};
 use tcl_value::value::Value;
-use tcl_words_at_hand::calls::call_plain_command;
-use tcl_words_at_hand::hands::{is_plain, words_at_hand};
-use tcl_words_at_hand::sums::count_sum;
+use crate::calls::call_plain_command;
+use crate::hands::{is_plain, words_at_hand};
+use crate::sums::count_sum;
 
 /// Makes a step and calls a built-in command.
 ///

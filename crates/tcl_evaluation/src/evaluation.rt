@@ -14,7 +14,7 @@ ghost use Rattle.tcl_calls.specs.Words.{opens, IsShort};
 ghost use Rattle.tcl_parser.specs.Reading.{read_script};
 ghost use Rattle.tcl_prepared.specs.Views.{seen_command, seen_part, seen_word};
 ghost use Rattle.tcl_evaluation.specs.View.{PartGoes, PartBreaks};
-ghost use Rattle.tcl_words_at_hand.specs.Scripts.{read_so};
+ghost use Rattle.tcl_evaluation.specs.Scripts.{read_so};
 
 use crate::words::{call_literals, call_words};
 use std::alloc::Global;
@@ -29,8 +29,8 @@ use tcl_run::steps::{known_short, on_ok, read_named};
 use tcl_text::text::Text;
 use tcl_tree::tree::{Place, Tree};
 use tcl_value::value::Value;
-use tcl_words_at_hand::hands::sum_at_hand;
-use tcl_words_at_hand::sums::count_sum;
+use crate::hands::sum_at_hand;
+use crate::sums::count_sum;
 
 /// Evaluates a script that was read, one level deeper.
 ///

@@ -2,6 +2,7 @@
 #![tactic(auto)]
 
 mod at_hand;
+pub mod calls;
 mod children;
 mod collecting;
 mod commands;
@@ -9,11 +10,13 @@ mod control;
 pub mod crossing;
 pub mod evaluation;
 mod expressions;
+pub mod hands;
 mod hosting;
 mod interpreters;
 mod loops;
 mod operands;
 mod sourcing;
+pub mod sums;
 mod switching;
 mod trying;
 pub mod waiting;

@@ -23,8 +23,8 @@ use Rattle.tcl_run.proofs.Endings.{IfEnded-at, Interrupts-more, Interrupts-at}
 use Rattle.tcl_run.proofs.Proceeding.{at_finish, at_prog, at_reply}
 use Rattle.tcl_run.proofs.Steady.{called_here, here-refl, here-trans, still_at, still_named, still_running, steady-trans, steady_holds, level_here, level_steady, nested_here, nested_holds, nested_innermost, nested_steady, nested_held, level_held, level-refl, same_level, begun_at, less_room, stands}
 use Rattle.tcl_run.proofs.Keeping.{keeps-refl, keeps-trans, level_keeps, charged_keeps, told_keeps}
-use Rattle.tcl_words_at_hand.proofs.Steps
-use Rattle.tcl_words_at_hand.proofs.Steps.{stays_of, EndsFrom, TextEnds, text_ends, VariableEnds, variable_ends, EndsAt, appended, forgets, both}
+use Rattle.tcl_evaluation.proofs.Steps
+use Rattle.tcl_evaluation.proofs.Steps.{stays_of, EndsFrom, TextEnds, text_ends, VariableEnds, variable_ends, EndsAt, appended, forgets, both}
 use Rattle.std.proofs.Common.{true, None}
 use Rattle.tcl_core.specs.Endings.{Reply}
 use Rattle.tcl_language.specs.Control.{procedure, bindings, proc_form}
@@ -34,7 +34,7 @@ use Rattle.tcl_interpreter.specs.declared.parameter.Parameter.{Parameter}
 use Rattle.std.specs.Bool.{OnTrue, OnFalse}
 use Rattle.tcl_calls.specs.Procedures.{Enters, TooLongBound}
 use Rattle.tcl_evaluation.proofs.Calling.{left_more, call_too_long, call_unbound, call_runs}
-use Rattle.tcl_words_at_hand.specs.Scripts.{read_so}
+use Rattle.tcl_evaluation.specs.Scripts.{read_so}
 use Rattle.std.proofs.Common.{take, ◌-◌}
 use Rattle.tcl_language.specs.Faults.{invalid_command}
 use Rattle.tcl_language.specs.Table.{dispatch}
@@ -42,7 +42,7 @@ use Rattle.tcl_run.specs.Ends.{itself}
 use Rattle.tcl_flow.specs.View.{completion_of}
 use Rattle.tcl_language.specs.Control.{code_text, eval as control_eval, catch as control_catch}
 use Rattle.tcl_calls.specs.Found.{found}
-use Rattle.tcl_words_at_hand.proofs.Found.{call_found, call_missing}
+use Rattle.tcl_evaluation.proofs.Found.{call_found, call_missing}
 use Rattle.tcl_evaluation.proofs.Catching.{caught_ok, caught_err, eval_runs, eval_long, eval_none, catch_goes, catch_passes, catch_none, catch_many}
 use Rattle.tcl_evaluation.specs.View.{targeted, unhidden}
 use Rattle.std.proofs.Common.{false}
@@ -69,7 +69,7 @@ use Rattle.tcl_evaluation.proofs.Staying.{here_caught, here_collected, here_err,
 use Rattle.tcl_core.specs.Entries.Entry.{Eval, InvokeHidden}
 use Rattle.tcl_language.specs.Table.{hidden_at, invoked}
 use Rattle.tcl_calls.specs.Found.{hidden_found}
-use Rattle.tcl_words_at_hand.proofs.Found.{invoke_found, invoke_missing}
+use Rattle.tcl_evaluation.proofs.Found.{invoke_found, invoke_missing}
 use Rattle.tcl_core.specs.Entries.Entry.{CallWords}
 use Rattle.tcl_language.specs.Interpreters.{call_alias as alias_program}
 use Rattle.tcl_language.specs.Table.{serve}
@@ -104,7 +104,7 @@ use Rattle.tcl_evaluation.proofs.Levelling
 use Rattle.tcl_evaluation.proofs.Walking
 use Rattle.tcl_evaluation.proofs.Walking.{passed}
 use Rattle.tcl_evaluation.proofs.Conditions
-use Rattle.tcl_words_at_hand.proofs.Computing
+use Rattle.tcl_evaluation.proofs.Computing
 use Rattle.tcl_evaluation.proofs.Looping
 use Rattle.tcl_evaluation.proofs.Looping.{next_then}
 use Rattle.tcl_evaluation.specs.Conditional.{ComputesTo, TestGoes, TurnGoes, turn_then}
@@ -154,15 +154,15 @@ use Rattle.tcl_run.proofs.Losing.{lost_again, lost_once}
 use Rattle.tcl_run.proofs.Proceeding.{does_proceeds, stopped, stopped_by}
 use Rattle.tcl_language.specs.Definitions as definitions
 use Rattle.tcl_interpreter.specs.declared.builtin.Builtin.{Builtin}
-use Rattle.tcl_words_at_hand.proofs.Plainly.{acts_proceeds, sum_in, unchanged_runs}
-use Rattle.tcl_words_at_hand.specs.Sums.{CallsAtHand, CallsBuiltin, CallsBuiltinAtHand, CallsNamed}
+use Rattle.tcl_evaluation.proofs.HandPlainly.{acts_proceeds, sum_in, unchanged_runs}
+use Rattle.tcl_evaluation.specs.Sums.{CallsAtHand, CallsBuiltin, CallsBuiltinAtHand, CallsNamed}
 use Rattle.tcl_interpreter.specs.declared.command.Command.TheVariants as command
 use Rattle.std.proofs.Common.{Bool}
 use Rattle.tcl_parser.specs.Reading.{read_script}
-use Rattle.tcl_words_at_hand.specs.Hands.{AllEnd, IsNamed, texts_of}
-use Rattle.tcl_words_at_hand.proofs.Calling as Calls
-use Rattle.tcl_words_at_hand.proofs.Own.{charged_own, named_own}
-use Rattle.tcl_words_at_hand.proofs.Plainly.{there_at}
+use Rattle.tcl_evaluation.specs.Hands.{AllEnd, IsNamed, texts_of}
+use Rattle.tcl_evaluation.proofs.HandCalling as Calls
+use Rattle.tcl_evaluation.proofs.Own.{charged_own, named_own}
+use Rattle.tcl_evaluation.proofs.HandPlainly.{there_at}
 use Rattle.tcl_tree.specs.declared.tree.Tree.{Tree as Table}
 use Rattle.tcl_run.specs.Runs.{IsRunning}
 use Rattle.tcl_run.specs.Ends.{OnCompletion}

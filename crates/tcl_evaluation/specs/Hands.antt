@@ -1,0 +1,144 @@
+-- Words, expressions and commands that are at hand in an interpreter: what they come to is known
+-- without an evaluation.
+use Rattle.std.specs.Prelude.{◌≡◌, ◌⊎◌, Bool, true, false, ℤ, List, [], ◌∷◌, ◌++◌, Option}
+use Rattle.std.specs.Prelude.{Some, None, Ok}
+use Rattle.std.specs.Fmt.{signed_decimal}
+use Rattle.tcl_core.specs.Paths.{Text, Path}
+use Rattle.tcl_core.specs.Trees.{Node}
+use Rattle.tcl_expr.specs.declared.tree.ExprTree.{ExprTree}
+use Rattle.tcl_frames.specs.Chain.{read}
+use Rattle.tcl_frames.specs.Places.{Levels}
+use Rattle.tcl_interpreter.specs.declared.builtin.Builtin.TheVariants.{Expr}
+use Rattle.tcl_interpreter.specs.declared.command.Command.{Command}
+use Rattle.tcl_interpreter.specs.declared.command.Command.TheVariants as command
+use Rattle.tcl_language.specs.Instructions.{fits}
+use Rattle.tcl_language.specs.Words.{concat}
+use Rattle.tcl_number_expressions.specs.AtHand.{IsNumberAtHand}
+use Rattle.tcl_parser.specs.Reading.{read_script}
+use Rattle.tcl_parser.specs.Words.{WordRead, Reading}
+use Rattle.tcl_parser.specs.declared.script.Part.{Part}
+use Rattle.tcl_parser.specs.declared.script.Part.TheVariants.{Literal, Variable, Script}
+use Rattle.tcl_prepared.specs.Views.{literal_word}
+use Rattle.tcl_text.specs.declared.integer.Integers.{Integers}
+use Rattle.tcl_tree.specs.Own.{Own}
+use Rattle.tcl_tree.specs.TreeOf.{tree_of, marks_of, Names}
+use Rattle.tcl_tree.specs.declared.tree.Place.{Place}
+use Rattle.tcl_tree.specs.declared.tree.Tree.{Tree as Table}
+use Rattle.tcl_value.specs.Texts.{AllWithin}
+use Rattle.tcl_calls.specs.Expressions.{IsKept}
+use Rattle.tcl_evaluation.specs.declared.hands.Values.{Values}
+use Rattle.tcl_evaluation.specs.declared.hands.Values.TheVariants as variant
+use Rattle.tcl_calls.specs.Found.{found}
+
+-- ## Words
+
+-- the part stands for the text: it is that text, or a variable that holds it
+abbrev pub PartStands : Levels → Part → Text → Type 0
+PartStands frames (Literal more) text = more ≡ text
+PartStands frames (Variable name) text = read frames name ≡ Ok text
+PartStands frames other text = Prim.⊥
+
+-- what the part stands for comes behind a text
+abbrev pub PartAdds : Levels → Part → Text → Text → Type 0
+PartAdds frames part before after = (text : Text) × (after ≡ before ++ text) ×
+    PartStands frames part text
+
+-- the parts stand, one behind the other, for the text
+abbrev pub PartsStand : Levels → List Part → Text → Type 0
+PartsStand frames [] text = text ≡ []
+PartsStand frames (part ∷ parts) text = (first : Text) × (rest : Text) × (text ≡ first ++ rest) ×
+    PartStands frames part first × PartsStand frames parts rest
+
+-- the word isn't spread, and its parts stand for the text
+pub record StandsFor (frames : Levels) (word : WordRead) (text : Text) : Type 0 where
+  pub single : word.expand ≡ false
+  pub short : fits text ≡ true
+  pub by : PartsStand frames word.parts text
+
+-- each word stands for the text at its place
+abbrev pub AllStand : Levels → List WordRead → List Text → Type 0
+AllStand frames [] [] = Unit {0}
+AllStand frames [] (t ∷ texts) = Prim.⊥
+AllStand frames (w ∷ words) [] = Prim.⊥
+AllStand frames (w ∷ words) (t ∷ texts) = StandsFor frames w t × AllStand frames words texts
+
+-- ## Commands
+
+-- a word names a command in the interpreter
+abbrev pub IsNamed : Node Own → Text → Command → Type 0
+IsNamed n word named = found n word ≡ Ok named
+
+-- ## Sums: scripts that are one `expr` of numbers at hand
+
+-- The script is one command of two words that stand for themselves: the first names `expr`, and the
+-- second is an expression of numbers at hand, which comes to the text.
+pub record IsSum (style : Integers) (n : Node Own) (script : Reading) (text : Text) : Type 0 where
+  pub word : Text
+  pub argument : Text
+  pub is : script ≡ record {
+    commands = (literal_word word ∷ literal_word argument ∷ []) ∷ [];
+    fault = None;
+  }
+  pub within : AllWithin (word ∷ argument ∷ [])
+  pub named : IsNamed n word (command.Builtin Expr)
+  pub short : fits (concat (argument ∷ [])) ≡ true
+  pub kept : ExprTree
+  pub is_kept : IsKept style (concat (argument ∷ [])) kept
+  pub number : ℤ
+  pub at_hand : IsNumberAtHand n.own.chain.frames style kept.nodes.items number
+  pub comes : text ≡ signed_decimal number
+
+-- and so in the interpreter that a place names
+abbrev pub IsSumIn : Table → Place → Reading → Text → Type 0
+IsSumIn t place script text = (p : Path) (n : Node Own) → Names t place p → tree_of t p ≡ Some n →
+    IsSum (marks_of t).integers n script text
+
+-- the word is a sum in brackets, which comes to the text
+abbrev pub IsSumWord : Integers → Node Own → WordRead → Text → Type 0
+IsSumWord style n word text = (word.expand ≡ false) × (fits text ≡ true) × (inner : Text) ×
+    (word.parts ≡ Script inner ∷ []) × IsSum style n (read_script inner) text
+
+-- The word isn't spread, and it stands for the text, as one that is at hand or as the result of a
+-- sum in brackets.
+abbrev pub EndsAs : Integers → Node Own → WordRead → Bool → Text → Type 0
+EndsAs style n word false text = StandsFor n.own.chain.frames word text
+EndsAs style n word true text = IsSumWord style n word text
+
+-- and so in the interpreter that a place names
+abbrev pub EndsIn : Table → Place → WordRead → Bool → Text → Type 0
+EndsIn t place word sums text = (p : Path) (n : Node Own) → Names t place p →
+    tree_of t p ≡ Some n → EndsAs (marks_of t).integers n word sums text
+
+-- the interpreter that a place names has the own part that it had
+abbrev pub KeepsOwn : Table → Table → Place → Type 0
+KeepsOwn old new place = (p : Path) (n : Node Own) → Names old place p → tree_of old p ≡ Some n →
+    (m : Node Own) × (tree_of new p ≡ Some m) × (m.own ≡ n.own)
+
+-- ## The words of calls
+
+-- Each word stands for the text at its place, but that one is a sum in brackets where it is told.
+abbrev pub AllEnd : Integers → Node Own → List WordRead → Bool → List Text → Type 0
+AllEnd style n [] sums [] = sums ≡ false
+AllEnd style n [] sums (t ∷ texts) = Prim.⊥
+AllEnd style n (w ∷ words) sums [] = Prim.⊥
+AllEnd style n (w ∷ words) sums (t ∷ texts) =
+    (StandsFor n.own.chain.frames w t × AllEnd style n words sums texts) ⊎
+    ((sums ≡ true) × IsSumWord style n w t × AllStand n.own.chain.frames words texts)
+
+-- and so in the interpreter that a place names
+abbrev pub AllEndIn : Table → Place → List WordRead → Bool → List Text → Type 0
+AllEndIn t place words sums texts = (p : Path) (n : Node Own) → Names t place p →
+    tree_of t p ≡ Some n → AllEnd (marks_of t).integers n words sums texts
+
+-- whether one of two is told, unless both are
+abbrev pub one_of : Bool → Bool → Option Bool
+one_of true true = None
+one_of true false = Some true
+one_of false other = Some other
+
+-- the texts of up to four words
+abbrev pub texts_of : Values → List Text
+texts_of (variant.One texts) = texts
+texts_of (variant.Two texts) = texts
+texts_of (variant.Three texts) = texts
+texts_of (variant.Four texts) = texts

@@ -1,0 +1,258 @@
+//! What is at hand: words, commands, and sums in brackets.
+ghost use Rattle.std.specs.Prelude.{◌≡◌, ◌∷◌, [], true, false, map, IfSome};
+ghost use Rattle.tcl_commands.specs.Kinds.{is_plain};
+ghost use Rattle.tcl_language.specs.Instructions.{fits};
+ghost use Rattle.tcl_parser.specs.declared.script.Part.TheVariants.{Script};
+ghost use Rattle.std.specs.String.{string_bytes};
+ghost use Rattle.tcl_prepared.specs.Views.{seen_part, seen_word};
+ghost use Rattle.tcl_evaluation.specs.Hands.{AllEndIn, EndsIn, IsSumIn, PartAdds, PartsStand};
+ghost use Rattle.tcl_evaluation.specs.Hands.{StandsFor, one_of, texts_of};
+
+use std::alloc::Global;
+use tcl_calls::expressions::{number_at, read_expression};
+use tcl_calls::lookup::builtin_named;
+use tcl_calls::scripts::{hand_place, script_of};
+use tcl_frames::frames::Frames;
+use tcl_prepared::prepared::{Bracket, Prepared, PreparedCommand, PreparedPart, PreparedWord};
+use tcl_run::steps::{frames_seen, known_short};
+use tcl_text::limit::MOST_BYTES;
+use tcl_text::text::Text;
+use tcl_tree::builtin::Builtin;
+use tcl_tree::tree::{Place, Tree};
+use tcl_value::value::Value;
+
+/// Whether a built-in command evaluates nothing, and asks neither another interpreter nor the host.
+pub fn is_plain(builtin: Builtin) -> bool
+    ensures { result ≡ is_plain builtin }
+{
+    match builtin {
+        Builtin::Uplevel | Builtin::Eval | Builtin::Catch | Builtin::Try => false,
+        Builtin::Foreach | Builtin::Lmap | Builtin::Dict | Builtin::Switch => false,
+        Builtin::Expr | Builtin::If | Builtin::While | Builtin::For => false,
+        Builtin::Rename | Builtin::Interp => false,
+        Builtin::Open | Builtin::Close | Builtin::Gets | Builtin::Puts => false,
+        Builtin::Read | Builtin::Eof | Builtin::Flush | Builtin::Source => false,
+        _ => true,
+    }
+}
+
+/// Whether a part is a text or a variable.
+fn is_plain_part(part: &PreparedPart) -> bool {
+    matches!(part, PreparedPart::Literal(_) | PreparedPart::Variable(_))
+}
+
+/// Adds what a part stands for to a text, where it is a text or a variable of the current frame.
+fn add_part(frames: &Frames, alloc: Global, part: &PreparedPart, text: &mut String) -> Option<()>
+    ensures { IfSome result (λ _. PartAdds frames.now.frames (seen_part part.now)
+        (string_bytes text.old) (string_bytes text.new)) }
+{
+    match part {
+        PreparedPart::Literal(more) => text.push_str(more.as_str()).ok(),
+        PreparedPart::Variable(name) => frames.scalar_near(name)?.write_to(alloc, text).ok(),
+        _ => None,
+    }
+}
+
+/// What parts stand for over these frames, one behind the other, where each of them is a text or a
+/// variable of the current one.
+fn parts_at_hand(frames: &Frames, alloc: Global, parts: &[PreparedPart]) -> Option<Value>
+    ensures { IfSome result (λ value. PartsStand frames.now.frames (map seen_part parts.now)
+        value) }
+{
+    if !parts.iter().all(is_plain_part) {
+        return None;
+    }
+    let mut text = String::new(alloc);
+    'parts: for part in parts {
+        add_part(frames, alloc, part, &mut text)?;
+        if text.len() > MOST_BYTES {
+            return None;
+        }
+    }
+    Value::from_text(Text::from_string(alloc, text).ok()?).ok()
+}
+
+/// What a word stands for over these frames, where its parts are texts and variables of the current
+/// one.
+fn value_at_hand(frames: &Frames, alloc: Global, word: &PreparedWord) -> Option<Value>
+    ensures { IfSome result (λ value. StandsFor frames.now.frames (seen_word word.now) value) }
+{
+    let value = match word {
+        PreparedWord::Literal(value) => value.clone().ok()?,
+        PreparedWord::Lone(PreparedPart::Variable(name)) => {
+            frames.scalar_near(name)?.clone().ok()?
+        }
+        PreparedWord::Parts(parts) => parts_at_hand(frames, alloc, parts.as_slice())?,
+        _ => return None,
+    };
+    Some(known_short(value))
+}
+
+/// What a word stands for in the interpreter, where its parts are texts and variables of the
+/// current frame.
+fn word_at_hand(tree: &Tree, alloc: Global, place: Place, word: &PreparedWord) -> Option<Value>
+    ensures { IfSome result (λ value. EndsIn tree.now place (seen_word word.now) false value) }
+{
+    value_at_hand(frames_seen(tree, place)?, alloc, word)
+}
+
+/// The result of a script that is one `expr` of one word, where that is an expression of numbers
+/// at hand. Nothing is counted: [`count_sum`](crate::sums::count_sum) does that.
+pub fn sum_at_hand(tree: &Tree, alloc: Global, place: Place, script: &Prepared) -> Option<Value>
+    ensures at_hand { IfSome result (λ sum. IsSumIn tree.now place script.now sum) }
+    ensures short { IfSome result (λ sum. fits sum ≡ true) }
+{
+    let [command] = script.commands() else {
+        return None;
+    };
+    let PreparedCommand::Constant(literals) = command else {
+        return None;
+    };
+    if script.fault().is_some() {
+        return None;
+    }
+    let [word, args @ ..] = literals.words() else {
+        return None;
+    };
+    if args.len() != 1 {
+        return None;
+    }
+    let Builtin::Expr = builtin_named(tree, place, word)? else {
+        return None;
+    };
+    let Ok(text) = script_of(alloc, args) else {
+        return None;
+    };
+    let style = tree.integers();
+    let Ok(kept) = read_expression(tree, alloc, style, &text) else {
+        return None;
+    };
+    hand_place(&text, &args[0]);
+    let number = number_at(tree, place, style, &kept)?;
+    Some(known_short(Value::from_int(number)))
+}
+
+/// The script in brackets that a word is.
+fn bracket_of(word: &PreparedWord) -> Option<&Bracket>
+    ensures { IfSome result (λ bracket. seen_word word.now
+        ≡ record { parts = Script bracket.now ∷ []; expand = false }) }
+{
+    match word {
+        PreparedWord::Lone(PreparedPart::Bracket(bracket)) => Some(bracket),
+        _ => None,
+    }
+}
+
+/// What a word stands for, and whether it is a sum in brackets, which isn't counted yet.
+fn end_at_hand(
+    tree: &Tree,
+    alloc: Global,
+    place: Place,
+    word: &PreparedWord,
+) -> Option<(Value, bool)>
+    ensures { IfSome result (λ end. EndsIn tree.now place (seen_word word.now) end.1 end.0) }
+{
+    if let Some(bracket) = bracket_of(word) {
+        let sum = sum_at_hand(tree, alloc, place, bracket.script())?;
+        return Some((sum, true));
+    }
+    Some((word_at_hand(tree, alloc, place, word)?, false))
+}
+
+/// The values of up to four words.
+#[derive(Drop)]
+pub enum Values {
+    One([Value; 1]),
+    Two([Value; 2]),
+    Three([Value; 3]),
+    Four([Value; 4]),
+}
+
+impl Values {
+    /// Them, from the first word on.
+    pub fn as_slice(&self) -> &[Value]
+        ensures { result.now ≡ texts_of self.now }
+    {
+        match self {
+            Values::One(values) => values,
+            Values::Two(values) => values,
+            Values::Three(values) => values,
+            Values::Four(values) => values,
+        }
+    }
+}
+
+/// What words stand for that are at hand.
+#[derive(Drop)]
+pub struct WordsAtHand {
+    pub values: Values,
+    /// Whether one of them is a sum in brackets, which isn't counted yet.
+    pub sums: bool,
+}
+
+/// Whether one of two is told, unless both are.
+fn one_of(first: bool, second: bool) -> Option<bool>
+    ensures { result ≡ one_of first second }
+{
+    if first && second {
+        None
+    } else {
+        Some(first || second)
+    }
+}
+
+/// What two words stand for, as [`words_at_hand`].
+fn two_at_hand(
+    tree: &Tree,
+    alloc: Global,
+    place: Place,
+    first: &PreparedWord,
+    second: &PreparedWord,
+) -> Option<(Value, Value, bool)>
+    ensures { IfSome result (λ hand. AllEndIn tree.now place
+        (seen_word first.now ∷ seen_word second.now ∷ []) hand.2 (hand.0 ∷ hand.1 ∷ [])) }
+{
+    let (value, sum) = end_at_hand(tree, alloc, place, first)?;
+    let (other, other_sum) = end_at_hand(tree, alloc, place, second)?;
+    Some((value, other, one_of(sum, other_sum)?))
+}
+
+/// What these one to four words stand for, where each of them is at hand, and at most one is a sum.
+#[inline(never)]
+pub fn words_at_hand(
+    tree: &Tree,
+    alloc: Global,
+    place: Place,
+    words: &[PreparedWord],
+) -> Option<WordsAtHand>
+    ensures { IfSome result (λ hand. AllEndIn tree.now place (map seen_word words.now) hand.sums
+        (texts_of hand.values)) }
+{
+    match words {
+        [word] => {
+            let (value, sums) = end_at_hand(tree, alloc, place, word)?;
+            let values = Values::One([value]);
+            Some(WordsAtHand { values, sums })
+        }
+        [first, second] => {
+            let (a, b, sums) = two_at_hand(tree, alloc, place, first, second)?;
+            let values = Values::Two([a, b]);
+            Some(WordsAtHand { values, sums })
+        }
+        [first, second, third] => {
+            let (a, b, sum) = two_at_hand(tree, alloc, place, first, second)?;
+            let (c, last) = end_at_hand(tree, alloc, place, third)?;
+            let values = Values::Three([a, b, c]);
+            let sums = one_of(sum, last)?;
+            Some(WordsAtHand { values, sums })
+        }
+        [first, second, third, fourth] => {
+            let (a, b, sum) = two_at_hand(tree, alloc, place, first, second)?;
+            let (c, d, last) = two_at_hand(tree, alloc, place, third, fourth)?;
+            let values = Values::Four([a, b, c, d]);
+            let sums = one_of(sum, last)?;
+            Some(WordsAtHand { values, sums })
+        }
+        _ => None,
+    }
+}

@@ -1,3 +1,0 @@
-pub mod Hands
-pub mod Scripts
-pub mod Sums
