@@ -20,8 +20,8 @@ use Rattle.tcl_run.specs.Language.{language}
 use Rattle.tcl_language.specs.Scripts.{parts}
 use Rattle.tcl_language.specs.Words.{concat}
 use Rattle.tcl_operators.specs.Messages.{message_of as operator_message}
-use Rattle.tcl_number_expressions.specs.AtHand.{comes_to, IsNumberAtHand}
-use Rattle.tcl_number_expressions.proofs.UnderWay.{leads}
+use Rattle.tcl_expression_evaluation.specs.AtHand.{comes_to, IsNumberAtHand}
+use Rattle.tcl_expression_evaluation.proofs.UnderWay.{leads}
 use Rattle.tcl_parser.specs.Words.{WordRead}
 use Rattle.tcl_parser.specs.declared.script.Part.{Part}
 use Rattle.tcl_run.specs.Runs.{Proceeds, Ways}

@@ -14,7 +14,7 @@ use Rattle.tcl_language.specs.Scripts.{commands}
 use Rattle.tcl_language.specs.Table.{called}
 use Rattle.tcl_language.specs.Words.{concat}
 use Rattle.tcl_run.specs.Language.{language}
-use Rattle.tcl_number_expressions.specs.AtHand.{IsNumberAtHand}
+use Rattle.tcl_expression_evaluation.specs.AtHand.{IsNumberAtHand}
 use Rattle.tcl_parser.specs.Words.{Reading}
 use Rattle.tcl_prepared.specs.Views.{literal_word}
 use Rattle.tcl_run.specs.Ends.{Breaks, Says, Stays, too_deep_at}

@@ -13,7 +13,7 @@ use Rattle.tcl_interpreter.specs.declared.command.Command.{Command}
 use Rattle.tcl_interpreter.specs.declared.command.Command.TheVariants as command
 use Rattle.tcl_language.specs.Instructions.{fits}
 use Rattle.tcl_language.specs.Words.{concat}
-use Rattle.tcl_number_expressions.specs.AtHand.{IsNumberAtHand}
+use Rattle.tcl_expression_evaluation.specs.AtHand.{IsNumberAtHand}
 use Rattle.tcl_parser.specs.Reading.{read_script}
 use Rattle.tcl_parser.specs.Words.{WordRead, Reading}
 use Rattle.tcl_parser.specs.declared.script.Part.{Part}

@@ -4,3 +4,7 @@ pub mod Needs
 pub mod Forms
 pub mod Skips
 pub mod Trees
+pub mod Waiting
+pub mod Operators
+pub mod UnderWay
+pub mod Worked

@@ -2,7 +2,7 @@ use Rattle.std.proofs.Common.{◌≡◌, ℕ, List, [], ◌∷◌, ◌-◌, take
 use Rattle.std.proofs.lemmas.Int.{to_z-of_z}
 use Rattle.std.specs.Fmt.{signed_decimal}
 use Rattle.tcl_expr.specs.declared.tree.ExprTree.{ExprTree}
-use Rattle.tcl_number_expressions.specs.AtHand.{IsNumberAtHand}
+use Rattle.tcl_expression_evaluation.specs.AtHand.{IsNumberAtHand}
 use Rattle.tcl_interpreter.specs.declared.builtin.Builtin.{Builtin}
 use Rattle.tcl_interpreter.specs.declared.command.Command.TheVariants as command
 use Rattle.tcl_language.specs.Instructions.{fits}

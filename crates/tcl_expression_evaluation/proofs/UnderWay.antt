@@ -23,8 +23,8 @@ use Rattle.tcl_expr.specs.declared.tree.Node.TheVariants as node
 use Rattle.tcl_expression_evaluation.specs.Computations.{Computation, substitute, operand, and_then}
 use Rattle.tcl_expression_evaluation.specs.Steps.{doing, goes, from, top, below}
 use Rattle.tcl_expression_evaluation.proofs.Going.{done_at, done_past}
-use Rattle.tcl_number_expressions.specs.AtHand.{comes_to, given, text_read, variable_value, short_text, ReadAs, Brings, IsNumberAtHand, steps_of_two}
-use Rattle.tcl_number_expressions.proofs.Waiting.{none_wait, pushed, popped}
+use Rattle.tcl_expression_evaluation.specs.AtHand.{comes_to, given, text_read, variable_value, short_text, ReadAs, Brings, IsNumberAtHand, steps_of_two}
+use Rattle.tcl_expression_evaluation.proofs.Waiting.{none_wait, pushed, popped}
 
 -- ## Steps
 

@@ -1,7 +1,7 @@
 use Rattle.std.proofs.Common.{◌≡◌, nat_eq, true, false, of_z, w64, arith}
 use Rattle.std.proofs.lemmas.Bool.Decides.{nat_tests}
-use Rattle.tcl_number_expressions.proofs.Operators.{not_at}
-use Rattle.tcl_number_expressions.proofs.at_hand.apply_to_number.Goals as goal
+use Rattle.tcl_expression_evaluation.proofs.Operators.{not_at}
+use Rattle.tcl_expression_evaluation.proofs.at_hand.apply_to_number.Goals as goal
 
 pub returns-then-x-eq0 : goal.returns-then-x-eq0
 returns-then-x-eq0 c =

@@ -1,7 +1,7 @@
 use Rattle.std.proofs.Common.{rules, IfSome, Some, FitsSigned, w64}
 use Rattle.std.proofs.lemmas.Int.{to_z-of_z}
-use Rattle.tcl_number_expressions.proofs.UnderWay.{number_read, two_computed}
-use Rattle.tcl_number_expressions.proofs.at_hand.number_of_two.Goals as goal
+use Rattle.tcl_expression_evaluation.proofs.UnderWay.{number_read, two_computed}
+use Rattle.tcl_expression_evaluation.proofs.at_hand.number_of_two.Goals as goal
 
 pub returns : goal.returns
 returns c =

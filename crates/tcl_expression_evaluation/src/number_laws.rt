@@ -1,5 +1,5 @@
 //! Worked examples over the definition of what an expression comes to.
-ghost use Rattle.tcl_number_expressions.specs.Laws.{OneMoreIs42, OneMoreThanNone};
+ghost use Rattle.tcl_expression_evaluation.specs.NumberLaws.{OneMoreIs42, OneMoreThanNone};
 
 /// `$x + 1` comes to 42 in both styles of integers, where the variable holds `0x29`.
 pub fn one_more_is_42()

@@ -9,9 +9,9 @@ use Rattle.tcl_frames.specs.Places.{Levels}
 use Rattle.tcl_frames.specs.Chain.{read}
 use Rattle.tcl_expression_evaluation.specs.Computations.{Computation, substitute}
 use Rattle.tcl_expression_evaluation.specs.Steps.{goes}
-use Rattle.tcl_number_expressions.specs.AtHand.{comes_to, given, text_read, variable_value}
-use Rattle.tcl_number_expressions.specs.Laws.{OneMoreIs42, OneMoreThanNone}
-use Rattle.tcl_number_expressions.proofs.UnderWay.{variable_at}
+use Rattle.tcl_expression_evaluation.specs.AtHand.{comes_to, given, text_read, variable_value}
+use Rattle.tcl_expression_evaluation.specs.NumberLaws.{OneMoreIs42, OneMoreThanNone}
+use Rattle.tcl_expression_evaluation.proofs.UnderWay.{variable_at}
 
 pub one_more_is_42 : OneMoreIs42
 unfolding goes

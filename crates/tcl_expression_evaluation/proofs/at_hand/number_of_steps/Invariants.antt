@@ -1,6 +1,6 @@
 use Rattle.std.proofs.Common.{◌-◌, length}
-use Rattle.tcl_number_expressions.proofs.UnderWay.{UnderWay}
-use Rattle.tcl_number_expressions.proofs.at_hand.number_of_steps.Given as goal
+use Rattle.tcl_expression_evaluation.proofs.UnderWay.{UnderWay}
+use Rattle.tcl_expression_evaluation.proofs.at_hand.number_of_steps.Given as goal
 
 abbrev pub invariant-steps : goal.invariant-steps
 invariant-steps l = UnderWay l.frames.frames l.style l.nodes l.next l.waiting.items

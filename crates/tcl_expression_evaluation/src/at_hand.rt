@@ -7,8 +7,8 @@ ghost use Rattle.tcl_value.specs.Limits.{Bytes};
 ghost use Rattle.tcl_value.specs.Reading.{int_of};
 ghost use Rattle.tcl_operators.specs.Apply.{apply_unary, apply_binary};
 ghost use Rattle.tcl_expression_evaluation.specs.Computations.{Computation, operand};
-ghost use Rattle.tcl_number_expressions.specs.AtHand.{comes_to, IsNumberAtHand, steps_of_two};
-ghost use Rattle.tcl_number_expressions.specs.AtHand.{ReadAs, Brings};
+ghost use Rattle.tcl_expression_evaluation.specs.AtHand.{comes_to, IsNumberAtHand, steps_of_two};
+ghost use Rattle.tcl_expression_evaluation.specs.AtHand.{ReadAs, Brings};
 
 use arrayvec::ArrayVec;
 use tcl_expr::operator::{BinaryOperator, UnaryOperator};

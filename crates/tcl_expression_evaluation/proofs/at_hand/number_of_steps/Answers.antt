@@ -1,8 +1,8 @@
 use Rattle.std.proofs.Common.{rules, ◌∙◌, ap, sym, ◌<◌, ◌++◌, ◌∷◌, [], length, arith, FitsSigned, w64}
 use Rattle.std.proofs.lemmas.Bool.Decides.{nat_tests}
 use Rattle.std.proofs.lemmas.Int.{to_z-of_z}
-use Rattle.tcl_number_expressions.proofs.UnderWay.{begins, goes_on, ends}
-use Rattle.tcl_number_expressions.proofs.at_hand.number_of_steps.Goals as goal
+use Rattle.tcl_expression_evaluation.proofs.UnderWay.{begins, goes_on, ends}
+use Rattle.tcl_expression_evaluation.proofs.at_hand.number_of_steps.Goals as goal
 
 pub steps-init : goal.steps-init
 steps-init c = begins c.args.frames.now.frames c.args.style c.args.nodes.now c.new-waiting.result.items (sym c.new-waiting.ensures)

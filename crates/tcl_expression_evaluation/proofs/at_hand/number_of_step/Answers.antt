@@ -1,7 +1,7 @@
 use Rattle.std.proofs.Common.{rules, IfSome, FitsSigned, w64}
 use Rattle.std.proofs.lemmas.Int.{to_z-of_z}
-use Rattle.tcl_number_expressions.proofs.UnderWay.{number_read, operand_read, one_applied, two_applied}
-use Rattle.tcl_number_expressions.proofs.at_hand.number_of_step.Goals as goal
+use Rattle.tcl_expression_evaluation.proofs.UnderWay.{number_read, operand_read, one_applied, two_applied}
+use Rattle.tcl_expression_evaluation.proofs.at_hand.number_of_step.Goals as goal
 
 pub returns-in_ok-value_at_hand-in-Operand : goal.returns-in_ok-value_at_hand-in-Operand
 returns-in_ok-value_at_hand-in-Operand c = λ texts wait.

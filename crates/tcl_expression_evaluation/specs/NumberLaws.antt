@@ -13,7 +13,7 @@ use Rattle.tcl_expr.specs.declared.token.Leaf.TheVariants.{Literal, Substituted}
 use Rattle.tcl_expr.specs.declared.tree.Node.{Node}
 use Rattle.tcl_expr.specs.declared.tree.Node.TheVariants as node
 use Rattle.tcl_expression_evaluation.specs.Steps.{from}
-use Rattle.tcl_number_expressions.specs.AtHand.{comes_to}
+use Rattle.tcl_expression_evaluation.specs.AtHand.{comes_to}
 
 -- `$x + 1`
 abbrev pub one_more : WordRead → List Node

@@ -4,7 +4,7 @@ use Rattle.tcl_text.specs.declared.integer.Integers.{Integers}
 use Rattle.tcl_value.specs.Limits.{Bytes}
 use Rattle.tcl_value.specs.Reading.{int_of}
 use Rattle.tcl_expression_evaluation.specs.Steps.{top, below}
-use Rattle.tcl_number_expressions.specs.AtHand.{ReadAs}
+use Rattle.tcl_expression_evaluation.specs.AtHand.{ReadAs}
 
 pub none_wait : (style : Integers) (numbers : List ℤ) → [] ≡ numbers → ReadAs style [] numbers
 unfolding ReadAs

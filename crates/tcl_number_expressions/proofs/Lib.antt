@@ -1,4 +1,0 @@
-pub mod Waiting
-pub mod Operators
-pub mod UnderWay
-pub mod Worked

@@ -1,2 +1,0 @@
-pub mod AtHand
-pub mod Laws
