@@ -1,3 +1,6 @@
 mod KeptLemmas
 mod SessionLemmas
 mod Turning
+mod LineLemmas
+mod Readings
+mod Written

@@ -3,10 +3,10 @@ use Rattle.std.proofs.Common.{◌≡◌, ℕ, Option, Some, None, Result, Ok, Er
 use Rattle.std.specs.Prelude.{IfNone, IfSome, IsSome, ◌⊎◌}
 use Rattle.tcl_eval.specs.declared.running.Refused.{Refused}
 use Rattle.tcl_eval.specs.declared.running.Refused.TheVariants as refused
-use Rattle.tcl_protocol.specs.Messages as ask
-use Rattle.tcl_protocol.specs.declared.answers.Answer.{Answer}
-use Rattle.tcl_protocol.specs.declared.refusals.Refusal.{Refusal}
-use Rattle.tcl_protocol.specs.declared.refusals.Refusal.TheVariants as refusal
+use Rattle.tcl_serve.specs.Messages as ask
+use Rattle.tcl_serve.specs.declared.answers.Answer.{Answer}
+use Rattle.tcl_serve.specs.declared.refusals.Refusal.{Refusal}
+use Rattle.tcl_serve.specs.declared.refusals.Refusal.TheVariants as refusal
 use Rattle.tcl_serve.specs.Keeping.{of_unsaved}
 use Rattle.tcl_serve.specs.Numbering.{IsKept}
 use Rattle.tcl_serve.specs.Sessions.{Asked, Does, IsSame, Undone}

@@ -13,9 +13,9 @@ use Rattle.tcl_core.specs.Entries.{Entry}
 use Rattle.tcl_core.specs.Paths.{Path}
 use Rattle.tcl_functions.specs.Actions.ActionView.{Completes}
 use Rattle.tcl_functions.specs.declared.action.Action.{Action}
-use Rattle.tcl_protocol.specs.Messages.{Asks, Evaluate, OnTree}
-use Rattle.tcl_protocol.specs.Talking.{Understands}
-use Rattle.tcl_protocol.specs.declared.refusals.Refusal.TheVariants.{Memory}
+use Rattle.tcl_serve.specs.Messages.{Asks, Evaluate, OnTree}
+use Rattle.tcl_serve.specs.Talking.{Understands}
+use Rattle.tcl_serve.specs.declared.refusals.Refusal.TheVariants.{Memory}
 use Rattle.tcl_run.specs.Entering.{whole_entry}
 
 -- what is said of an ordinary result

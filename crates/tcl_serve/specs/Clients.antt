@@ -17,16 +17,16 @@ use Rattle.tcl_functions.specs.Actions.{ActionView, action_of}
 use Rattle.tcl_functions.specs.Actions.ActionView.{Completes, Enters, Exits}
 use Rattle.tcl_functions.specs.declared.action.Action.{Action}
 use Rattle.tcl_functions.specs.declared.call.Call.{Call}
-use Rattle.tcl_protocol.specs.Answers.{call_line}
-use Rattle.tcl_protocol.specs.Lines.{Says, Traffic}
-use Rattle.tcl_protocol.specs.Messages.{Asks, EndRun, Return}
-use Rattle.tcl_protocol.specs.Talking.{Finishes, Rejects, Replies, Understands}
-use Rattle.tcl_protocol.specs.declared.answers.Answer.{Answer}
-use Rattle.tcl_protocol.specs.declared.answers.Answer.TheVariants as answer
-use Rattle.tcl_protocol.specs.declared.answers.ClientCall.{ClientCall}
-use Rattle.tcl_protocol.specs.declared.answers.Ended.TheVariants as ended
-use Rattle.tcl_protocol.specs.declared.refusals.Refusal.{Refusal}
-use Rattle.tcl_protocol.specs.declared.refusals.Refusal.TheVariants.{Memory, Told}
+use Rattle.tcl_serve.specs.Answers.{call_line}
+use Rattle.tcl_serve.specs.Lines.{Says, Traffic}
+use Rattle.tcl_serve.specs.Messages.{Asks, EndRun, Return}
+use Rattle.tcl_serve.specs.Talking.{Finishes, Rejects, Replies, Understands}
+use Rattle.tcl_serve.specs.declared.answers.Answer.{Answer}
+use Rattle.tcl_serve.specs.declared.answers.Answer.TheVariants as answer
+use Rattle.tcl_serve.specs.declared.answers.ClientCall.{ClientCall}
+use Rattle.tcl_serve.specs.declared.answers.Ended.TheVariants as ended
+use Rattle.tcl_serve.specs.declared.refusals.Refusal.{Refusal}
+use Rattle.tcl_serve.specs.declared.refusals.Refusal.TheVariants.{Memory, Told}
 use Rattle.tcl_run.specs.Entering.{whole_entry}
 
 -- ## What is between the lines

@@ -4,10 +4,10 @@ use Rattle.tcl_core.specs.Entries as entry
 use Rattle.tcl_core.specs.Entries.{Entry}
 use Rattle.tcl_core.specs.Paths.{Path, Text}
 use Rattle.tcl_interpreter.specs.Commands.{AliasView, way_between, way_past}
-use Rattle.tcl_protocol.specs.Messages as ask
-use Rattle.tcl_protocol.specs.Messages.{Ask, Asks, Evaluate, OnTree}
-use Rattle.tcl_protocol.specs.declared.refusals.Refusal.{Refusal}
-use Rattle.tcl_protocol.specs.declared.refusals.Refusal.TheVariants as refusal
+use Rattle.tcl_serve.specs.Messages as ask
+use Rattle.tcl_serve.specs.Messages.{Ask, Asks, Evaluate, OnTree}
+use Rattle.tcl_serve.specs.declared.refusals.Refusal.{Refusal}
+use Rattle.tcl_serve.specs.declared.refusals.Refusal.TheVariants as refusal
 
 -- the path is that of a child, of this name, of the interpreter at another
 abbrev pub AtChild : Path → (Path → Text → Type 0) → Type 0

@@ -25,14 +25,14 @@ use Rattle.tcl_host.specs.declared.request.Request.{Request}
 use Rattle.tcl_replay.specs.OpenWatched.{IfDeleted, IfEnds, IsOpenDeletion, IsOpenRecord}
 use Rattle.tcl_replay.specs.declared.open_watching.OpenUnwatched.{OpenUnwatched}
 use Rattle.tcl_replay.specs.declared.open_watching.OpenUnwatched.TheVariants as unwatched
-use Rattle.tcl_protocol.specs.Messages.{Evaluation, steps}
-use Rattle.tcl_protocol.specs.declared.answers.Answer.{Answer}
-use Rattle.tcl_protocol.specs.declared.answers.Answer.TheVariants as answer
-use Rattle.tcl_protocol.specs.declared.answers.Ended.{Ended}
-use Rattle.tcl_protocol.specs.declared.answers.Ended.TheVariants as ended
-use Rattle.tcl_protocol.specs.declared.answers.Watched.{Watched}
-use Rattle.tcl_protocol.specs.declared.refusals.Refusal.{Refusal}
-use Rattle.tcl_protocol.specs.declared.refusals.Refusal.TheVariants as refusal
+use Rattle.tcl_serve.specs.Messages.{Evaluation, steps}
+use Rattle.tcl_serve.specs.declared.answers.Answer.{Answer}
+use Rattle.tcl_serve.specs.declared.answers.Answer.TheVariants as answer
+use Rattle.tcl_serve.specs.declared.answers.Ended.{Ended}
+use Rattle.tcl_serve.specs.declared.answers.Ended.TheVariants as ended
+use Rattle.tcl_serve.specs.declared.answers.Watched.{Watched}
+use Rattle.tcl_serve.specs.declared.refusals.Refusal.{Refusal}
+use Rattle.tcl_serve.specs.declared.refusals.Refusal.TheVariants as refusal
 use Rattle.tcl_recorder.specs.Records.{RecordView}
 use Rattle.tcl_replay.specs.Watched.{Reacts, unwatchable}
 use Rattle.tcl_run.specs.Outsides.{Going}

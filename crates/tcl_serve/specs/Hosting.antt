@@ -2,10 +2,10 @@
 use Rattle.std.specs.Prelude.{ℕ, List, IsUtf8, drop, length}
 use Rattle.tcl_host.specs.MemoryHost.{errors_of, new_host, output_of}
 use Rattle.tcl_serve.specs.declared.hosts.ServedHost.{ServedHost}
-use Rattle.tcl_protocol.specs.declared.messages.Channel.{Channel}
-use Rattle.tcl_protocol.specs.declared.messages.Channel.TheVariants as channel
-use Rattle.tcl_protocol.specs.declared.refusals.Refusal.{Refusal}
-use Rattle.tcl_protocol.specs.declared.refusals.Refusal.TheVariants.{Memory, NotText}
+use Rattle.tcl_serve.specs.declared.messages.Channel.{Channel}
+use Rattle.tcl_serve.specs.declared.messages.Channel.TheVariants as channel
+use Rattle.tcl_serve.specs.declared.refusals.Refusal.{Refusal}
+use Rattle.tcl_serve.specs.declared.refusals.Refusal.TheVariants.{Memory, NotText}
 
 -- one that has nothing
 abbrev pub fresh_host : ServedHost

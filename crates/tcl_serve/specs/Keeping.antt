@@ -11,9 +11,9 @@ use Rattle.tcl_eval.specs.declared.running.Refused.TheVariants as refused
 use Rattle.tcl_run.specs.Language.{language}
 use Rattle.tcl_player.specs.Players.{result_of}
 use Rattle.tcl_player.specs.declared.player.Outcome.{Outcome}
-use Rattle.tcl_protocol.specs.declared.answers.Replayed.{Replayed}
-use Rattle.tcl_protocol.specs.declared.refusals.Refusal.{Refusal}
-use Rattle.tcl_protocol.specs.declared.refusals.Refusal.TheVariants as refusal
+use Rattle.tcl_serve.specs.declared.answers.Replayed.{Replayed}
+use Rattle.tcl_serve.specs.declared.refusals.Refusal.{Refusal}
+use Rattle.tcl_serve.specs.declared.refusals.Refusal.TheVariants as refusal
 use Rattle.tcl_record_texts.specs.Lines.{event_line, outcome_text}
 use Rattle.tcl_recorder.specs.Crossings.{events_of}
 use Rattle.tcl_recorder.specs.declared.crossing.Crossing.{Crossing}

@@ -10,3 +10,10 @@ pub mod Clients
 pub mod Entering
 pub mod Opened
 pub mod Views
+pub mod Answers
+pub mod Fields
+pub mod Lines
+pub mod Messages
+pub mod Names
+pub mod Refusals
+pub mod Talking

@@ -7,9 +7,9 @@ use Rattle.tcl_serve.specs.declared.open.Talk.{Talk}
 use Rattle.tcl_core.specs.Endings.{completion}
 use Rattle.tcl_core.specs.Paths.{Text}
 use Rattle.tcl_flow.specs.View.{completion_of}
-use Rattle.tcl_protocol.specs.Messages.{Asks, EndRun, Evaluate, OnTree, Return}
-use Rattle.tcl_protocol.specs.declared.refusals.Refusal.{Refusal}
-use Rattle.tcl_protocol.specs.declared.refusals.Refusal.TheVariants.{CallOpen, NotOpen}
+use Rattle.tcl_serve.specs.Messages.{Asks, EndRun, Evaluate, OnTree, Return}
+use Rattle.tcl_serve.specs.declared.refusals.Refusal.{Refusal}
+use Rattle.tcl_serve.specs.declared.refusals.Refusal.TheVariants.{CallOpen, NotOpen}
 use Rattle.tcl_run.specs.Entering.{whole_entry}
 
 -- the last of them

@@ -7,12 +7,12 @@ use Rattle.tcl_core.specs.Trees.What.{DepthLimited, Limited}
 use Rattle.tcl_host.specs.MemoryHost.{file_of, with_file, with_input}
 use Rattle.tcl_interpreter.specs.Commands.{AliasView, way_between}
 use Rattle.tcl_interpreter.specs.declared.command.Command.TheVariants as command
-use Rattle.tcl_protocol.specs.Messages as ask
-use Rattle.tcl_protocol.specs.Messages.{Ask}
-use Rattle.tcl_protocol.specs.declared.answers.Answer.{Answer}
-use Rattle.tcl_protocol.specs.declared.answers.Answer.TheVariants as answer
-use Rattle.tcl_protocol.specs.declared.refusals.Refusal.{Refusal}
-use Rattle.tcl_protocol.specs.declared.refusals.Refusal.TheVariants.{Memory}
+use Rattle.tcl_serve.specs.Messages as ask
+use Rattle.tcl_serve.specs.Messages.{Ask}
+use Rattle.tcl_serve.specs.declared.answers.Answer.{Answer}
+use Rattle.tcl_serve.specs.declared.answers.Answer.TheVariants as answer
+use Rattle.tcl_serve.specs.declared.refusals.Refusal.{Refusal}
+use Rattle.tcl_serve.specs.declared.refusals.Refusal.TheVariants.{Memory}
 use Rattle.tcl_serve.specs.Acting.{IsRefused, IsStanding, nobody}
 use Rattle.tcl_serve.specs.Hosting.{IfUnreadable, all_taken, untaken}
 use Rattle.tcl_serve.specs.declared.served.ServedTree.{ServedTree}

@@ -2,13 +2,13 @@
 use Rattle.std.specs.Prelude.{◌≡◌, ◌⊎◌, ◌+◌, ℕ, List, Option, Some, None, Result}
 use Rattle.tcl_serve.specs.Clients.{IsQuiet}
 use Rattle.tcl_serve.specs.Views.{ClientView}
-use Rattle.tcl_protocol.specs.Lines.{Traffic}
-use Rattle.tcl_protocol.specs.Messages.{Asks}
-use Rattle.tcl_protocol.specs.Talking.{Finishes, Rejects, Replies, Understands}
-use Rattle.tcl_protocol.specs.declared.answers.Answer.{Answer}
-use Rattle.tcl_protocol.specs.declared.lines.Ending.{Ending}
-use Rattle.tcl_protocol.specs.declared.lines.Ending.TheVariants as ending
-use Rattle.tcl_protocol.specs.declared.refusals.Refusal.{Refusal}
+use Rattle.tcl_serve.specs.Lines.{Traffic}
+use Rattle.tcl_serve.specs.Messages.{Asks}
+use Rattle.tcl_serve.specs.Talking.{Finishes, Rejects, Replies, Understands}
+use Rattle.tcl_serve.specs.declared.answers.Answer.{Answer}
+use Rattle.tcl_serve.specs.declared.lines.Ending.{Ending}
+use Rattle.tcl_serve.specs.declared.lines.Ending.TheVariants as ending
+use Rattle.tcl_serve.specs.declared.refusals.Refusal.{Refusal}
 use Rattle.tcl_serve.specs.Sessions.{Answers, IsEmpty}
 use Rattle.tcl_serve.specs.declared.session.Session.{Session}
 

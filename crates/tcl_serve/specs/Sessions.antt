@@ -3,15 +3,15 @@ use Rattle.std.specs.Prelude.{◌≡◌, ◌⊎◌, ◌↔◌, ℕ, Bool, false,
 use Rattle.std.specs.Prelude.{Ok, Err, IsSome, IsTrue}
 use Rattle.tcl_serve.specs.Views.{ClientView}
 use Rattle.tcl_core.specs.Paths.{Path}
-use Rattle.tcl_protocol.specs.Messages as ask
-use Rattle.tcl_protocol.specs.Messages.{Asks, Evaluation}
-use Rattle.tcl_protocol.specs.declared.answers.Answer.{Answer}
-use Rattle.tcl_protocol.specs.declared.answers.Answer.TheVariants as answer
-use Rattle.tcl_protocol.specs.declared.fields.Field.{Field}
-use Rattle.tcl_protocol.specs.declared.fields.Field.TheVariants as field
-use Rattle.tcl_protocol.specs.declared.refusals.Refusal.{Refusal}
-use Rattle.tcl_protocol.specs.declared.refusals.Refusal.TheVariants.{CallOpen, Memory}
-use Rattle.tcl_protocol.specs.declared.refusals.Refusal.TheVariants.{Nothing, NotOpen}
+use Rattle.tcl_serve.specs.Messages as ask
+use Rattle.tcl_serve.specs.Messages.{Asks, Evaluation}
+use Rattle.tcl_serve.specs.declared.answers.Answer.{Answer}
+use Rattle.tcl_serve.specs.declared.answers.Answer.TheVariants as answer
+use Rattle.tcl_serve.specs.declared.fields.Field.{Field}
+use Rattle.tcl_serve.specs.declared.fields.Field.TheVariants as field
+use Rattle.tcl_serve.specs.declared.refusals.Refusal.{Refusal}
+use Rattle.tcl_serve.specs.declared.refusals.Refusal.TheVariants.{CallOpen, Memory}
+use Rattle.tcl_serve.specs.declared.refusals.Refusal.TheVariants.{Nothing, NotOpen}
 use Rattle.tcl_recorder.specs.Records.{RecordView}
 use Rattle.tcl_replay.specs.Saved.{saved_of}
 use Rattle.tcl_replay.specs.declared.saving.Saved.{Saved}

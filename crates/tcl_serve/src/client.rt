@@ -7,7 +7,7 @@ ghost use Rattle.tcl_serve.specs.Clients.{entry_answer};
 ghost use Rattle.tcl_serve.specs.Views.{ClientView};
 ghost use Rattle.tcl_serve.specs.declared.open.Next.TheVariants as next;
 ghost use Rattle.tcl_functions.specs.Actions.{action_of};
-ghost use Rattle.tcl_protocol.specs.Talking.{Listens, Replies};
+ghost use Rattle.tcl_serve.specs.Talking.{Listens, Replies};
 
 use crate::entering::Asked;
 use crate::open::{Awaited, Next, Talk};
@@ -18,11 +18,11 @@ use tcl_flow::completion::{Completion, OK};
 use tcl_functions::action::Action;
 use tcl_functions::call::Call;
 use tcl_functions::functions::Functions;
-use tcl_protocol::answers::{Answer, ClientCall, Ended, call_line};
-use tcl_protocol::lines::{Ending, Lines};
-use tcl_protocol::messages::Message;
-use tcl_protocol::refusals::Refusal;
-use tcl_protocol::talking::{hear, reply};
+use crate::answers::{Answer, ClientCall, Ended, call_line};
+use crate::lines::{Ending, Lines};
+use crate::messages::Message;
+use crate::refusals::Refusal;
+use crate::talking::{hear, reply};
 use tcl_text::text::Text;
 use tcl_value::value::Value;
 

@@ -1,16 +1,16 @@
 //! Messages as entries, while a call is open.
 ghost use Rattle.std.specs.Prelude.{◌≡◌, IfErr, IfOk, true};
 ghost use Rattle.tcl_serve.specs.Entering.{AsksEntry, IsEntry, IsMisfit, NoEntry, client_way};
-ghost use Rattle.tcl_protocol.specs.Messages as asks;
-ghost use Rattle.tcl_protocol.specs.Messages.{ask_of, evaluation_of};
-ghost use Rattle.tcl_protocol.specs.declared.messages.Ask.TheVariants as ask;
+ghost use Rattle.tcl_serve.specs.Messages as asks;
+ghost use Rattle.tcl_serve.specs.Messages.{ask_of, evaluation_of};
+ghost use Rattle.tcl_serve.specs.declared.messages.Ask.TheVariants as ask;
 ghost use Rattle.tcl_run.specs.Entering.{whole_entry};
 
 use std::alloc::Global;
-use tcl_protocol::messages::{
+use crate::messages::{
     Alias, AliasToClient, Ask, ClearAlias, Create, Evaluate, LimitCount, LimitDepth,
 };
-use tcl_protocol::refusals::Refusal;
+use crate::refusals::Refusal;
 use tcl_run::entry::{Entry, OwnEntry};
 use tcl_text::text::Text;
 use tcl_tree::alias;

@@ -2,8 +2,8 @@
 ghost use Rattle.std.specs.Prelude.{◌≡◌, IfOk, MatchResult};
 ghost use Rattle.tcl_serve.specs.Clients.{IsOver};
 ghost use Rattle.tcl_eval.specs.Running.{open_ending};
-ghost use Rattle.tcl_protocol.specs.Messages.{evaluation_of};
-ghost use Rattle.tcl_protocol.specs.declared.answers.Ended.TheVariants.{Completed};
+ghost use Rattle.tcl_serve.specs.Messages.{evaluation_of};
+ghost use Rattle.tcl_serve.specs.declared.answers.Ended.TheVariants.{Completed};
 ghost use Rattle.tcl_serve.specs.Evaluating.{Begins, Evaluates, EvaluatesFor, Says, SaysRecord};
 ghost use Rattle.tcl_serve.specs.Evaluating.{Watches, WatchesFor, ended_as, of_refused};
 
@@ -18,9 +18,9 @@ use tcl_eval::running::{End, OpenEnd, Refused, open_run};
 use tcl_flow::completion::Completion;
 use tcl_functions::serving::WithFunctions;
 use tcl_host::memory::MemoryHost;
-use tcl_protocol::answers::{Answer, Ended, Watched};
-use tcl_protocol::messages::{Evaluate, STEPS, Watch};
-use tcl_protocol::refusals::Refusal;
+use crate::answers::{Answer, Ended, Watched};
+use crate::messages::{Evaluate, STEPS, Watch};
+use crate::refusals::Refusal;
 use tcl_recorder::record::Record;
 use tcl_replay::open_watching::{OpenUnwatched, open_watched};
 use tcl_text::text::Text;

@@ -3,15 +3,15 @@ ghost use Rattle.std.specs.Prelude.{◌≡◌, IfErr, IfOk, MatchOption, OnErr, 
 ghost use Rattle.std.specs.Prelude.{Some, drop};
 ghost use Rattle.tcl_host.specs.MemoryHost.{file_of, with_file, with_input};
 ghost use Rattle.tcl_serve.specs.Hosting.{IfUnreadable, all_taken, fresh_host, untaken};
-ghost use Rattle.tcl_protocol.specs.declared.answers.Answer.TheVariants as answer;
-ghost use Rattle.tcl_protocol.specs.declared.messages.Channel.TheVariants as channel;
-ghost use Rattle.tcl_protocol.specs.declared.refusals.Refusal.TheVariants.{Memory};
+ghost use Rattle.tcl_serve.specs.declared.answers.Answer.TheVariants as answer;
+ghost use Rattle.tcl_serve.specs.declared.messages.Channel.TheVariants as channel;
+ghost use Rattle.tcl_serve.specs.declared.refusals.Refusal.TheVariants.{Memory};
 
 use std::alloc::{AllocError, Global};
 use tcl_host::memory::MemoryHost;
-use tcl_protocol::answers::Answer;
-use tcl_protocol::messages::{Channel, PutFile};
-use tcl_protocol::refusals::Refusal;
+use crate::answers::Answer;
+use crate::messages::{Channel, PutFile};
+use crate::refusals::Refusal;
 use tcl_text::text::Text;
 
 /// A host in memory, and how much of what was written to its channels was taken.

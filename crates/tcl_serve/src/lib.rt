@@ -2,13 +2,20 @@
 #![tactic(auto)]
 
 mod acting;
+pub mod answers;
 pub mod client;
 pub mod entering;
 mod evaluating;
+pub mod fields;
 mod hosts;
 mod keeping;
+pub mod kinds;
+pub mod lines;
+pub mod messages;
 mod numbered;
 pub mod open;
+pub mod refusals;
 mod served;
 pub mod serving;
 mod session;
+pub mod talking;

@@ -4,14 +4,14 @@ ghost use Rattle.tcl_serve.specs.Entering.{IsEntry, IsMisfit};
 ghost use Rattle.tcl_serve.specs.Opened.{IsNext, IsOpen, RefusesOpen, last_of};
 ghost use Rattle.tcl_core.specs.Endings.{completion};
 ghost use Rattle.tcl_flow.specs.View.{completion_of};
-ghost use Rattle.tcl_protocol.specs.Messages.{asks_of};
-ghost use Rattle.tcl_protocol.specs.declared.refusals.Refusal.TheVariants.{CallOpen, NotOpen};
+ghost use Rattle.tcl_serve.specs.Messages.{asks_of};
+ghost use Rattle.tcl_serve.specs.declared.refusals.Refusal.TheVariants.{CallOpen, NotOpen};
 
 use crate::entering::{Asked, entry_of, evaluation};
 use std::alloc::Global;
 use tcl_flow::completion::Completion;
-use tcl_protocol::messages::{Message, Return};
-use tcl_protocol::refusals::Refusal;
+use crate::messages::{Message, Return};
+use crate::refusals::Refusal;
 use tcl_value::value::Value;
 
 /// A message that is done as an entry, and is answered once the entry is.

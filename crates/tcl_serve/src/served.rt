@@ -1,6 +1,6 @@
 //! A tree that is served, and its host.
 ghost use Rattle.std.specs.Prelude.{◌≡◌, IfOk, false};
-ghost use Rattle.tcl_protocol.specs.Messages.{ask_of};
+ghost use Rattle.tcl_serve.specs.Messages.{ask_of};
 ghost use Rattle.tcl_serve.specs.Hosting.{fresh_host};
 ghost use Rattle.tcl_serve.specs.Served.{Acts};
 ghost use Rattle.tcl_tree.specs.TreeOf.{alone, marks_of, new_root, tree_of};
@@ -10,9 +10,9 @@ use crate::acting::{
 };
 use crate::hosts::ServedHost;
 use std::alloc::{AllocError, Global};
-use tcl_protocol::answers::Answer;
-use tcl_protocol::messages::Ask;
-use tcl_protocol::refusals::Refusal;
+use crate::answers::Answer;
+use crate::messages::Ask;
+use crate::refusals::Refusal;
 use tcl_text::integer::Integers;
 use tcl_tree::tree::Tree;
 

@@ -1,7 +1,7 @@
 //! What a session keeps: trees, saved interpreters and records, under their numbers.
 ghost use Rattle.std.specs.Prelude.{◌≡◌};
-ghost use Rattle.tcl_protocol.specs.Messages.{asks_of, evaluation_of, place_of, ask_of};
-ghost use Rattle.tcl_protocol.specs.Messages as asks;
+ghost use Rattle.tcl_serve.specs.Messages.{asks_of, evaluation_of, place_of, ask_of};
+ghost use Rattle.tcl_serve.specs.Messages as asks;
 ghost use Rattle.tcl_serve.specs.Sessions.{Answers, Does, IsEmpty};
 
 use crate::client::Client;
@@ -11,10 +11,10 @@ use crate::numbered::Numbered;
 use crate::served::ServedTree;
 use std::alloc::Global;
 use std::io::{BufRead, Write};
-use tcl_protocol::answers::Answer;
-use tcl_protocol::fields::Field;
-use tcl_protocol::messages::{Ask, Compare, Evaluate, Interpreter, Message, Replay, Watch};
-use tcl_protocol::refusals::Refusal;
+use crate::answers::Answer;
+use crate::fields::Field;
+use crate::messages::{Ask, Compare, Evaluate, Interpreter, Message, Replay, Watch};
+use crate::refusals::Refusal;
 use tcl_recorder::record::Record;
 use tcl_replay::saving::Saved;
 use tcl_text::integer::Integers;

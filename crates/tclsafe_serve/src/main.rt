@@ -5,7 +5,7 @@
 use std::io;
 use std::io::{BufReader, BufWriter};
 use std::process::ExitCode;
-use tcl_protocol::lines::Ending;
+use tcl_serve::lines::Ending;
 use tcl_serve::serving::serve;
 
 fn main(rt: HostRuntime) -> ExitCode {

@@ -1,5 +1,5 @@
 use Rattle.std.proofs.Common.{inl, refl, rules}
-use Rattle.tcl_protocol.specs.Messages.{asks_of}
+use Rattle.tcl_serve.specs.Messages.{asks_of}
 use Rattle.tcl_serve.proofs.serving.serve_line.Goals as goal
 
 pub returns-in-Some : goal.returns-in-Some

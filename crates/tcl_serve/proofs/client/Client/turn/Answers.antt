@@ -4,7 +4,7 @@ use Rattle.tcl_serve.specs.Clients.Acts.{gone}
 use Rattle.tcl_serve.specs.Clients.Idles.{refuses}
 use Rattle.tcl_serve.specs.Opened.{IsNext}
 use Rattle.tcl_serve.specs.Views.{ClientView}
-use Rattle.tcl_protocol.specs.Messages.{asks_of}
+use Rattle.tcl_serve.specs.Messages.{asks_of}
 use Rattle.tcl_serve.proofs.client.Client.turn.Goals as goal
 
 pub returns-then-is_some : goal.returns-then-is_some

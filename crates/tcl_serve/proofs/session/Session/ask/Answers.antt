@@ -1,5 +1,5 @@
 use Rattle.std.proofs.Common.{refl, sym}
-use Rattle.tcl_protocol.specs.Messages.{ask_of}
+use Rattle.tcl_serve.specs.Messages.{ask_of}
 use Rattle.tcl_serve.proofs.KeptLemmas.{kept, puts_through}
 use Rattle.tcl_serve.proofs.SessionLemmas.{asked_does, kept_same}
 use Rattle.std.proofs.Common.{inl}

@@ -1,6 +1,6 @@
 use Rattle.std.proofs.Common.{ap, inr, refl, rules, sym}
-use Rattle.tcl_protocol.specs.Messages as asks
-use Rattle.tcl_protocol.specs.declared.answers.Answer.TheVariants as answer
+use Rattle.tcl_serve.specs.Messages as asks
+use Rattle.tcl_serve.specs.declared.answers.Answer.TheVariants as answer
 use Rattle.tcl_serve.proofs.SessionLemmas.{does_err, same}
 use Rattle.tcl_serve.proofs.session.Session.replay.Goals as goal
 

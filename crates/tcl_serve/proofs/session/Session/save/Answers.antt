@@ -1,6 +1,6 @@
 use Rattle.std.proofs.Common.{Err, Ok, inr, refl, rules, subst, sym}
-use Rattle.tcl_protocol.specs.Messages as asks
-use Rattle.tcl_protocol.specs.Messages.{place_of}
+use Rattle.tcl_serve.specs.Messages as asks
+use Rattle.tcl_serve.specs.Messages.{place_of}
 use Rattle.tcl_serve.proofs.SessionLemmas.{does_err, same}
 use Rattle.tcl_serve.specs.Keeping.{SavesAt}
 use Rattle.tcl_serve.proofs.session.Session.save.Goals as goal

@@ -1,3 +1,0 @@
-mod LineLemmas
-mod Readings
-mod Written
