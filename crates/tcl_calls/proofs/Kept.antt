@@ -9,7 +9,7 @@ use Rattle.tcl_expr.proofs.Decisions.{gives_tree}
 use Rattle.tcl_expr.specs.Trees.{Tree}
 use Rattle.tcl_expression_evaluation.specs.Steps.{from}
 use Rattle.tcl_expression_evaluation.proofs.Trees.{steps_compute_trees}
-use Rattle.tcl_parse_cache.specs.Kept.{steps_of}
+use Rattle.tcl_tree.specs.Kept.{steps_of}
 use Rattle.tcl_expr.specs.declared.tree.ExprTree.{ExprTree}
 use Rattle.tcl_expr.specs.declared.tree.Node.{Node}
 use Rattle.tcl_language.specs.Instructions.{fits}

@@ -16,3 +16,4 @@ pub mod Naming
 pub mod Order
 pub mod Reaching
 pub mod Forms
+pub mod Kept

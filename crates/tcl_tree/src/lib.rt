@@ -2,6 +2,7 @@
 #![tactic(auto)]
 
 pub mod laws;
+pub mod readings;
 pub mod tree;
 
 pub use tcl_interpreter::{alias, builtin, command, node, parameter, procedure, refusal};

@@ -12,7 +12,7 @@ use slab::Slab;
 use std::alloc::{AllocError, Global};
 use std::cell::RefCell;
 use tcl_interpreter::node::{Meter, Node, State};
-use tcl_parse_cache::readings::Readings;
+use crate::readings::Readings;
 use tcl_text::integer::Integers;
 use tcl_text::text::Text;
 

@@ -10,7 +10,7 @@ use std::cell::RefCell;
 use tcl_interpreter::node::Node;
 use tcl_interpreter::refusal::TreeError;
 use tcl_interpreter::steps::join;
-use tcl_parse_cache::readings::Readings;
+use crate::readings::Readings;
 use tcl_text::text::Text;
 
 impl Tree {

@@ -4,7 +4,7 @@ ghost use Rattle.indexmap.specs.IndexMap.{IsEmpty};
 ghost use Rattle.tcl_expr.specs.Expressions.{expression_of};
 ghost use Rattle.tcl_parser.specs.Reading.{read_script};
 ghost use Rattle.tcl_value.specs.Limits.{IsWithin};
-ghost use Rattle.tcl_parse_cache.specs.Kept.{IsTree, IsRefused, Gives};
+ghost use Rattle.tcl_tree.specs.Kept.{IsTree, IsRefused, Gives};
 
 use indexmap::IndexMap;
 use std::alloc::{AllocError, Global};
