@@ -3,10 +3,10 @@ use crate::measuring::{measured, took};
 use std::alloc::{AllocError, Global};
 use std::io;
 use std::time::Instant;
+use tcl_frames::fault::FrameError;
 use tcl_frames::frames::Frames;
 use tcl_text::text::Text;
 use tcl_value::value::Value;
-use tcl_frames::fault::FrameError;
 
 /// How many frames are pushed and popped.
 const FRAMES: i64 = 1_000_000;

@@ -12,9 +12,9 @@ ghost use Rattle.tcl_calls.specs.Looking.{Finds};
 ghost use Rattle.tcl_run.specs.Entering.{IsOwn, entry_of, whole_entry};
 ghost use Rattle.tcl_language.specs.Table as table;
 
+use crate::carrying::return_to_caller;
 use crate::serving::serve;
 use std::alloc::Global;
-use crate::carrying::return_to_caller;
 use tcl_run::entry::{Entry, OwnEntry};
 use tcl_run::failure::no_interpreter;
 use tcl_run::interruption::Interruption;

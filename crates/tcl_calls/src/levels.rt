@@ -16,12 +16,12 @@ ghost use Rattle.tcl_tree.specs.TreeOf.{tree_of, marks_of, Names};
 ghost use Rattle.tcl_calls.specs.Levels.{level_at_node, script_level};
 
 use std::alloc::Global;
+use tcl_frames::fault::FrameError;
 use tcl_run::failure::{bad_level, wrong_args};
 use tcl_run::interruption::Interruption;
 use tcl_run::levels::{MOST_LEVELS, level_of};
 use tcl_tree::tree::{Place, Tree};
 use tcl_value::value::Value;
-use tcl_frames::fault::FrameError;
 
 /// The level that a word names. (uplevel(n))
 ///

@@ -10,6 +10,7 @@ ghost use Rattle.tcl_tree.specs.TreeOf.{tree_of, Names};
 ghost use Rattle.tcl_calls.specs.Found.{found, hidden_found};
 
 use std::alloc::{AllocError, Global};
+use tcl_frames::name::{after_leading, with_colons};
 use tcl_run::failure::{bad_name, invalid_command, invalid_hidden};
 use tcl_run::interruption::Interruption;
 use tcl_text::text::Text;
@@ -17,7 +18,6 @@ use tcl_tree::builtin::Builtin;
 use tcl_tree::command::Command;
 use tcl_tree::tree::{Place, Tree};
 use tcl_value::value::Value;
-use tcl_frames::name::{after_leading, with_colons};
 
 /// The name, where no two colons stand side by side in it.
 fn plain(name: Text) -> Option<Text>

@@ -12,12 +12,12 @@ ghost use Rattle.tcl_tree.specs.Own.{Own, command_in, hidden_in};
 ghost use Rattle.tcl_tree.specs.TreeOf.{tree_of, Names};
 
 use std::alloc::{AllocError, Global};
+use tcl_frames::name::{after_leading, with_colons};
 use tcl_run::failure::bad_name;
 use tcl_run::interruption::Interruption;
 use tcl_text::text::Text;
 use tcl_tree::command::Command;
 use tcl_tree::tree::{Place, Tree};
-use tcl_frames::name::{after_leading, with_colons};
 
 /// The name, where no two colons stand side by side in it.
 fn plain(name: Text) -> Option<Text>

@@ -25,6 +25,7 @@ ghost use Rattle.tcl_calls.specs.Procedures.{form_of, pairs_of, joined, next_bou
 ghost use Rattle.tcl_calls.specs.Procedures.{IsBoundTo, TooLongBound, Enters, straight};
 
 use std::alloc::{AllocError, Global};
+use tcl_frames::fault::FrameError;
 use tcl_frames::frames::Frames;
 use tcl_lists::commands::list;
 use tcl_run::failure::{refused, wrong_args};
@@ -35,7 +36,6 @@ use tcl_tree::parameter::Parameter;
 use tcl_tree::tree::{Place, Tree};
 use tcl_value::list::List;
 use tcl_value::value::Value;
-use tcl_frames::fault::FrameError;
 
 /// What a parameter is bound to in a call.
 #[derive(Drop)]

@@ -17,9 +17,9 @@ ghost use Rattle.tcl_run.specs.Entering.{question_of};
 ghost use Rattle.tcl_calls.specs.Listing.{first_of};
 
 use crate::naming::kept_name;
+use crate::words::within;
 use indexmap::IndexMap;
 use std::alloc::{AllocError, Global};
-use crate::words::within;
 use tcl_run::entry::Question;
 use tcl_run::interruption::Interruption;
 use tcl_text::list::write_list;

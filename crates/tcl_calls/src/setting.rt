@@ -7,11 +7,11 @@ ghost use Rattle.tcl_run.specs.Runs.{IsLevel};
 ghost use Rattle.tcl_tree.specs.TreeOf.{Names};
 
 use std::alloc::Global;
+use tcl_frames::variable_name::VariableName;
 use tcl_run::interruption::Interruption;
 use tcl_run::steps::{write_by_word, write_named};
 use tcl_tree::tree::{Place, Tree};
 use tcl_value::value::Value;
-use tcl_frames::variable_name::VariableName;
 
 /// Sets the variable that a word names.
 ///

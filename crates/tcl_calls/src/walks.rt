@@ -31,13 +31,13 @@ use crate::setting::set_variable;
 use std::alloc::{AllocError, Global};
 use std::marker::Model;
 use tcl_dicts::reading::dict_word;
+use tcl_frames::variable_name::VariableName;
 use tcl_run::failure::{refused, wrong_args};
 use tcl_run::interruption::Interruption;
 use tcl_run::steps::{read_list, variable_name};
 use tcl_tree::tree::{Place, Tree};
 use tcl_value::list::List;
 use tcl_value::value::Value;
-use tcl_frames::variable_name::VariableName;
 
 /// The form of `foreach`.
 pub const FOREACH: &str = "foreach varList list ?varList list ...? command";

@@ -19,6 +19,7 @@ use smallvec::SmallVec;
 use std::alloc::{AllocError, Global};
 use std::mem;
 use tcl_flow::completion;
+use tcl_frames::variable_name::VariableName;
 use tcl_parser::fault::Fault;
 use tcl_run::failure::{failure, too_long};
 use tcl_run::interruption::Interruption;
@@ -28,7 +29,6 @@ use tcl_text::text::Text;
 use tcl_tree::tree::{Place, Tree};
 use tcl_value::list::List;
 use tcl_value::value::Value;
-use tcl_frames::variable_name::VariableName;
 
 /// The words of a command that is put together. Up to four take no allocation.
 pub type Words = SmallVec<Value, 4>;

@@ -16,6 +16,7 @@ use crate::steps::is_missing;
 use std::alloc::Global;
 use tcl_dicts::changing as dicts;
 use tcl_frames::frames::Frames;
+use tcl_frames::variable_name::VariableName;
 use tcl_lists::changing as lists;
 use tcl_run::failure::{failure, refused};
 use tcl_run::interruption::Interruption;
@@ -24,7 +25,6 @@ use tcl_text::integer::Integers;
 use tcl_text::text::Text;
 use tcl_tree::tree::{Place, Tree};
 use tcl_value::value::Value;
-use tcl_frames::variable_name::VariableName;
 use tcl_words::refusal::Refusal;
 
 /// A change of what a variable holds, with the words that it takes.

@@ -20,6 +20,7 @@ ghost use Rattle.tcl_commands.specs.Ending.{EndsSo};
 
 use crate::naming::{kept_name, name_of, naming_failure, own_command};
 use std::alloc::{AllocError, Global};
+use tcl_frames::name::is_plain_name;
 use tcl_run::failure::{bad_name, wrong_args};
 use tcl_run::interruption::Interruption;
 use tcl_run::steps::read_list;
@@ -30,7 +31,6 @@ use tcl_tree::procedure::Procedure;
 use tcl_tree::refusal::TreeError;
 use tcl_tree::tree::{Place, Tree};
 use tcl_value::value::Value;
-use tcl_frames::name::is_plain_name;
 
 /// Whether a parameter has the name.
 fn has_name(name: &Text, parameters: &[Parameter]) -> bool

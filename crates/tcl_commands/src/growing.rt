@@ -17,7 +17,9 @@ ghost use Rattle.tcl_commands.specs.GrowthKinds.{first_of, grown_by};
 use crate::steps::is_missing;
 use crate::sums::raise;
 use std::alloc::Global;
+use tcl_frames::fault::FrameError;
 use tcl_frames::frames::Frames;
+use tcl_frames::variable_name::VariableName;
 use tcl_lists::refusing::not_changed;
 use tcl_run::failure::{failure, too_long, wrong_args};
 use tcl_run::interruption::Interruption;
@@ -27,8 +29,6 @@ use tcl_text::limit::MOST_BYTES;
 use tcl_text::text::Text;
 use tcl_tree::tree::{Place, Tree};
 use tcl_value::value::Value;
-use tcl_frames::fault::FrameError;
-use tcl_frames::variable_name::VariableName;
 use tcl_words::refusal::Refusal;
 
 /// Whether a value is no longer than a value may be when these are added to it.

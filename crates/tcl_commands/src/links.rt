@@ -13,13 +13,13 @@ ghost use Rattle.tcl_commands.specs.Steps.{Steps, Finds};
 use crate::answers::is_odd;
 use crate::steps::{frames_seen, link_variable};
 use std::alloc::{AllocError, Global};
+use tcl_frames::name::read_name;
 use tcl_run::failure::{bad_level, wrong_args};
 use tcl_run::interruption::Interruption;
 use tcl_run::levels::{MOST_LEVELS, level_of};
 use tcl_text::text::Text;
 use tcl_tree::tree::{Place, Tree};
 use tcl_value::value::Value;
-use tcl_frames::name::read_name;
 
 /// The level that a word names.
 fn level(tree: &Tree, alloc: Global, place: Place, word: &str) -> Result<usize, Interruption>

@@ -14,10 +14,8 @@ ghost use Rattle.tcl_text.specs.Writing.{written_list};
 
 use crate::answers::answered;
 use std::alloc::Global;
-use tcl_lists::{joining, splitting};
-use tcl_lists::{commands, indexes, lengthening};
+use tcl_lists::{commands, indexes, joining, lengthening, searching, sorting, splitting};
 use tcl_run::interruption::Interruption;
-use tcl_lists::{searching, sorting};
 use tcl_tree::tree::{Place, Tree};
 use tcl_value::value::Value;
 

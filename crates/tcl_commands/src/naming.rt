@@ -10,6 +10,7 @@ ghost use Rattle.tcl_commands.specs.Renaming.{IsBadName, IsNoOwnCommand, IsOwnCo
 ghost use Rattle.tcl_commands.specs.Renaming.{TellsRefusal};
 
 use std::alloc::{AllocError, Global};
+use tcl_frames::name::{after_leading, with_colons};
 use tcl_run::failure::{already_exists, bad_name, denied, invalid_command, invalid_hidden};
 use tcl_run::interruption::Interruption;
 use tcl_text::text::Text;
@@ -17,7 +18,6 @@ use tcl_tree::command::Command;
 use tcl_tree::refusal::TreeError;
 use tcl_tree::tree::{Place, Tree};
 use tcl_value::value::Value;
-use tcl_frames::name::{after_leading, with_colons};
 
 /// The name, where no two colons stand side by side in it.
 fn plain(name: Text) -> Option<Text>

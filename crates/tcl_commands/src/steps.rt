@@ -16,6 +16,7 @@ ghost use Rattle.tcl_commands.specs.Reading.{is_bad_name, is_missing, is_missing
 ghost use Rattle.tcl_commands.specs.Steps.{Steps};
 
 use std::alloc::{AllocError, Global};
+use tcl_frames::fault::{FrameError, FrameFault};
 use tcl_frames::frames::Frames;
 use tcl_run::failure::failure;
 use tcl_run::interruption::Interruption;
@@ -24,7 +25,6 @@ use tcl_text::integer::{IntegerFault, Integers, not_integer_message, too_large_m
 use tcl_text::text::Text;
 use tcl_tree::tree::{Place, Tree};
 use tcl_value::value::Value;
-use tcl_frames::fault::{FrameError, FrameFault};
 
 /// The frames of the interpreter that the place names.
 pub(crate) fn frames_seen(tree: &Tree, place: Place) -> &Frames

@@ -12,9 +12,9 @@ ghost use Rattle.tcl_dicts.specs.Changing.{put_of, incr_of, append_of, lappend_o
 use crate::reading::{not_changed, own_dict};
 use crate::values::{appended, incremented, joined, lengthened};
 use std::alloc::{AllocError, Global};
+use tcl_lists::nested::{remove_key, set_value};
 use tcl_lists::reading::{first_middle_last, two_and_rest, two_or_three_words};
 use tcl_lists::refusing::nested_refusal;
-use tcl_lists::nested::{remove_key, set_value};
 use tcl_text::integer::Integers;
 use tcl_value::value::Value;
 use tcl_words::refusal::{Refusal, wrong_arguments};

@@ -7,8 +7,8 @@ ghost use Rattle.tcl_lists.specs.Errors.{unknown_key};
 ghost use Rattle.tcl_dicts.specs.Refusing.{RefusesEntry};
 
 use std::alloc::Global;
-use tcl_lists::refusing::not_made;
 use tcl_lists::fault::unknown_key_message;
+use tcl_lists::refusing::not_made;
 use tcl_value::dict::Dict;
 use tcl_value::dict_fault::{DictError, DictFault, EntryError};
 use tcl_value::value::Value;

@@ -7,7 +7,10 @@ ghost use Rattle.tcl_run.specs.Runs.{IsHere, IsRunning, Keeps, ProceedsIn, ways}
 ghost use Rattle.tcl_evaluation.specs.Sums.{CallsAtHand, CallsBuiltin, CallsBuiltinAtHand};
 ghost use Rattle.tcl_evaluation.specs.Sums.{CallsNamed};
 
+use crate::calls::call_plain_command;
 use crate::commands::{call_builtin, call_command};
+use crate::hands::{is_plain, words_at_hand};
+use crate::sums::count_sum;
 use std::alloc::Global;
 use tcl_calls::lookup::{builtin_named, command_named};
 use tcl_prepared::prepared::PreparedWord;
@@ -18,9 +21,6 @@ use tcl_tree::builtin::Builtin;
 use tcl_tree::command::Command;
 use tcl_tree::tree::{Place, Tree};
 use tcl_value::value::Value;
-use crate::calls::call_plain_command;
-use crate::hands::{is_plain, words_at_hand};
-use crate::sums::count_sum;
 
 /// Makes a step and calls a built-in command.
 ///

@@ -16,6 +16,8 @@ ghost use Rattle.tcl_prepared.specs.Views.{seen_command, seen_part, seen_word};
 ghost use Rattle.tcl_evaluation.specs.View.{PartGoes, PartBreaks};
 ghost use Rattle.tcl_evaluation.specs.Scripts.{read_so};
 
+use crate::hands::sum_at_hand;
+use crate::sums::count_sum;
 use crate::words::{call_literals, call_words};
 use std::alloc::Global;
 use tcl_calls::words::{
@@ -29,8 +31,6 @@ use tcl_run::steps::{known_short, on_ok, read_named};
 use tcl_text::text::Text;
 use tcl_tree::tree::{Place, Tree};
 use tcl_value::value::Value;
-use crate::hands::sum_at_hand;
-use crate::sums::count_sum;
 
 /// Evaluates a script that was read, one level deeper.
 ///

@@ -5,12 +5,12 @@ ghost use Rattle.std.specs.Option.{option_copied};
 ghost use Rattle.tcl_frames.specs.VariableArrays.{is_taken, taken};
 ghost use Rattle.tcl_frames.specs.Arrays.{element_if};
 
+use crate::name_map::NameMap;
 use crate::names::push_if;
 use std::alloc::{AllocError, Global};
 use tcl_glob::matches;
 use tcl_text::text::Text;
 use tcl_value::value::Value;
-use crate::name_map::NameMap;
 
 /// Whether a pattern takes a key; where there is none, each is taken.
 fn is_taken(pattern: Option<&Text>, key: &str) -> bool

@@ -8,23 +8,23 @@ ghost use Rattle.tcl_frames.specs.Chain.{least};
 
 mod hints;
 
+use crate::access::Part;
 use crate::arrays::{elements_taken, keys_taken, owned_pattern};
+use crate::comparing::{Same, same_items};
+use crate::fault::{FrameError, FrameFault, NameFault, refused};
+use crate::frame::{Change, Frame};
 use crate::keys::change_key_in;
 use crate::links::link_frames;
+use crate::name::read_name;
+use crate::name_map::NameMap;
 use crate::names::{names_at, own_names};
 use crate::scope::Scope;
 use crate::steps::{array_in, change_in, end_or, exists_in, find_end, get_in, level_meant};
+use crate::variable::Variable;
 use std::alloc::{AllocError, Global};
 use std::marker::Model;
 use tcl_text::text::Text;
 use tcl_value::value::Value;
-use crate::access::Part;
-use crate::comparing::{Same, same_items};
-use crate::fault::{FrameError, FrameFault, NameFault, refused};
-use crate::frame::{Change, Frame};
-use crate::name::read_name;
-use crate::name_map::NameMap;
-use crate::variable::Variable;
 
 /// The most frames that may stand where room is taken to keep that of one more.
 const MOST_SPARE: usize = 64;

@@ -4,13 +4,13 @@ ghost use Rattle.tcl_frames.specs.Faults.{Refuses};
 ghost use Rattle.tcl_frames.specs.Keys.{change_key};
 ghost use Rattle.tcl_frames.specs.Sound.{AreFit};
 
-use crate::steps::{change_at, change_from, level_meant};
-use std::alloc::{AllocError, Global};
-use tcl_text::text::Text;
 use crate::access::Part;
 use crate::fault::{FrameError, NameFault, refused};
 use crate::frame::{Change, Frame};
 use crate::name::{element_text, read_name};
+use crate::steps::{change_at, change_from, level_meant};
+use std::alloc::{AllocError, Global};
+use tcl_text::text::Text;
 
 /// Changes the element with a key, of what a name is.
 pub(crate) fn change_key_in(

@@ -10,13 +10,13 @@ ghost use Rattle.tcl_frames.specs.Variables.Part.{whole, nested};
 ghost use Rattle.tcl_frames.specs.Reached.{start, over, may_link};
 ghost use Rattle.tcl_frames.specs.Sound.{AreFit};
 
-use crate::steps::{Target, find_target, level_for, variable_at};
-use std::alloc::{AllocError, Global};
-use tcl_text::text::Text;
 use crate::fault::{FrameError, FrameFault, NameFault, Verb, refused};
 use crate::frame::Frame;
 use crate::name::{is_plain_name, read_name};
+use crate::steps::{Target, find_target, level_for, variable_at};
 use crate::variable::{LinkTarget, Variable};
+use std::alloc::{AllocError, Global};
+use tcl_text::text::Text;
 
 /// Whether the links from a name at a level, which lead to this target, end at a local name or at
 /// an element of it. Where there is no target, they end where they begin.

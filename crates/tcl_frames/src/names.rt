@@ -7,13 +7,13 @@ ghost use Rattle.tcl_frames.specs.Reached.{start};
 ghost use Rattle.tcl_frames.specs.Sound.{AreFit};
 ghost use Rattle.tcl_frames.specs.declared.scope.Scope.TheVariants.{Local};
 
-use crate::steps::find;
-use std::alloc::{AllocError, Global};
-use tcl_text::text::Text;
 use crate::access::holds_in;
 use crate::frame::Frame;
 use crate::name_map::NameMap;
+use crate::steps::find;
 use crate::variable::Variable;
+use std::alloc::{AllocError, Global};
+use tcl_text::text::Text;
 
 /// Adds a name to its end, if it is wanted.
 pub(crate) fn push_if(

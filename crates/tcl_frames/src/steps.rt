@@ -14,15 +14,15 @@ ghost use Rattle.tcl_frames.specs.Targets.{owned_part, target_or, ended};
 ghost use Rattle.tcl_frames.specs.declared.fault.FrameFault.TheVariants.{BadName};
 ghost use Rattle.tcl_frames.specs.Sound.{AreFit};
 
-use std::alloc::{AllocError, Global};
-use tcl_text::text::Text;
-use tcl_value::value::Value;
 use crate::access::{Part, elements_in, holds_in, value_in};
 use crate::fault::{FrameError, NameFault, refused};
 use crate::frame::{Change, Frame};
 use crate::name::read_name;
 use crate::name_map::NameMap;
 use crate::variable::{LinkTarget, Variable};
+use std::alloc::{AllocError, Global};
+use tcl_text::text::Text;
+use tcl_value::value::Value;
 
 /// What a name stands for at a level.
 pub(crate) fn variable_at<'a>(frames: &'a [Frame], level: usize, name: &str) -> Option<&'a Variable>

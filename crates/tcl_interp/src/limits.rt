@@ -13,11 +13,11 @@ ghost use Rattle.tcl_interp.specs.Programs.{allowed, settable, to_limit, sets, l
 
 use crate::subject::{Subject, ask_subject, one_name, wrong_words};
 use std::alloc::Global;
-use tcl_commands::steps::word_integer;
 use tcl_calls::failure::{bad_count, bad_depth_limit};
 use tcl_calls::looking::{names_of, permit, stands};
 use tcl_calls::questions::node;
 use tcl_calls::requests::ask_at;
+use tcl_commands::steps::word_integer;
 use tcl_run::entry::{OwnEntry, Question};
 use tcl_run::failure::{bad_option, denied, wrong_args};
 use tcl_run::interruption::Interruption;

@@ -5,9 +5,9 @@ ghost use Rattle.tcl_run.specs.Runs.{Evaluates, IsHere, IsRunning, KeepsAndLoses
 
 use crate::deleting::delete_there;
 use std::alloc::Global;
-use tcl_commands::definitions::{names_child, remove, rename_to};
 use tcl_calls::naming::kept_name;
 use tcl_calls::serving::path_text;
+use tcl_commands::definitions::{names_child, remove, rename_to};
 use tcl_run::failure::wrong_args;
 use tcl_run::interruption::Interruption;
 use tcl_run::outside::Outside;

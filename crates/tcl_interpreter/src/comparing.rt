@@ -9,8 +9,8 @@ use crate::node::State;
 use crate::parameter::Parameter;
 use crate::procedure::Procedure;
 use indexmap::IndexMap;
-use tcl_text::text::Text;
 use tcl_frames::comparing::{Same, same_items};
+use tcl_text::text::Text;
 
 impl Same for Parameter {
     fn same(&self, other: &Parameter) -> bool {

@@ -6,10 +6,10 @@ ghost use Rattle.tcl_lists.specs.Lists.{Texts, Changes, first_middle_last};
 ghost use Rattle.tcl_lists.specs.Changing.{nested_outcome, path_or, path_of, lset_of};
 
 use crate::indexes::indexes_of;
+use crate::nested::set_element;
 use crate::reading::{first_middle_last, own_list};
 use crate::refusing::nested_refusal;
 use std::alloc::Global;
-use crate::nested::set_element;
 use tcl_text::integer::Integers;
 use tcl_value::value::Value;
 use tcl_words::refusal::Refusal;

@@ -10,10 +10,10 @@ ghost use Rattle.tcl_characters.specs.Texts.{text_of, trim_start, trim_end};
 ghost use Rattle.tcl_lists.specs.Joining.{joined, join_of, trimmed, with_part, gap, onto};
 ghost use Rattle.tcl_lists.specs.Joining.{concat_of};
 
-use std::alloc::{AllocError, Global};
-use tcl_characters::trimming::{trim_left, trim_right};
 use crate::indexes::elements_of;
 use crate::reading::{list_word, one_or_two_words};
+use std::alloc::{AllocError, Global};
+use tcl_characters::trimming::{trim_left, trim_right};
 use tcl_text::limit::MOST_BYTES;
 use tcl_text::text::Text;
 use tcl_value::value::Value;

@@ -8,11 +8,11 @@ ghost use Rattle.tcl_lists.specs.Sorting.{is_repeated, kept, same_number, with_n
 ghost use Rattle.tcl_lists.specs.Sorting.{numbered, elements_of, GivesSome};
 ghost use Rattle.tcl_lists.specs.Sorting.{IsSortedNumbers};
 
+use crate::building::list_value;
 use crate::ordering::{push_value, put_in_order};
+use crate::reading::integer_word;
 use crate::rows::NumberRow;
 use std::alloc::Global;
-use crate::building::list_value;
-use crate::reading::integer_word;
 use tcl_text::integer::Integers;
 use tcl_value::list::List;
 use tcl_value::value::Value;

@@ -6,10 +6,10 @@ ghost use Rattle.tcl_lists.specs.Lists.{Texts, list_value};
 ghost use Rattle.tcl_lists.specs.Sorting.{is_before, IsOrdered, is_repeated, kept};
 ghost use Rattle.tcl_lists.specs.Sorting.{same_text, GivesSome, IsSortedList};
 
-use crate::rows::TextRow;
-use std::alloc::{AllocError, Global};
 use crate::building::list_value;
 use crate::refusing::not_made;
+use crate::rows::TextRow;
+use std::alloc::{AllocError, Global};
 use tcl_value::list::List;
 use tcl_value::value::Value;
 use tcl_words::refusal::Refusal;

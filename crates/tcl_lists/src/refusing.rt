@@ -9,8 +9,8 @@ ghost use Rattle.tcl_lists.specs.Errors.{nested_message};
 ghost use Rattle.tcl_lists.specs.Changing.{nested_outcome};
 ghost use Rattle.tcl_lists.specs.Refusing.{out_of_range, RefusesChange};
 
-use std::alloc::{AllocError, Global};
 use crate::fault::{NestedError, NestedFault};
+use std::alloc::{AllocError, Global};
 use tcl_text::list::ListFault;
 use tcl_text::messages::OUT_OF_RANGE;
 use tcl_text::text::Text;

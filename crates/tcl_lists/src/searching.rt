@@ -6,12 +6,12 @@ ghost use Rattle.tcl_lists.specs.Lists.{Texts, list_value};
 ghost use Rattle.tcl_lists.specs.Searching.{is_like, takes, placed, taken, told};
 ghost use Rattle.tcl_lists.specs.Searching.{nothing_told, first_told, found, lsearch_of};
 
-use crate::search_options::{Search, all_and_two};
-use std::alloc::{AllocError, Global};
-use tcl_glob::matches;
 use crate::building::list_value;
 use crate::reading::list_word;
 use crate::refusing::not_made;
+use crate::search_options::{Search, all_and_two};
+use std::alloc::{AllocError, Global};
+use tcl_glob::matches;
 use tcl_value::list::List;
 use tcl_value::value::Value;
 use tcl_words::refusal::Refusal;

@@ -8,9 +8,9 @@ ghost use Rattle.tcl_lists.specs.SortCommand.{IsSortedWord, IsLsort};
 
 use crate::numbers::sorted_numbers;
 use crate::ordering::sorted_texts;
+use crate::reading::{all_and_last, list_word};
 use crate::sort_options::Sorting;
 use std::alloc::Global;
-use crate::reading::{all_and_last, list_word};
 use tcl_text::integer::Integers;
 use tcl_value::list::List;
 use tcl_value::value::Value;

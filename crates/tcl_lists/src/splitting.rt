@@ -11,10 +11,10 @@ ghost use Rattle.tcl_lists.specs.Lists.{Texts, list_value};
 ghost use Rattle.tcl_lists.specs.Splitting.{parts, part_texts, letter_text, split_at};
 ghost use Rattle.tcl_lists.specs.Splitting.{separators, split_of};
 
-use std::alloc::Global;
 use crate::building::list_value;
 use crate::reading::one_or_two_words;
 use crate::refusing::not_made;
+use std::alloc::Global;
 use tcl_text::text::Text;
 use tcl_value::list::List;
 use tcl_value::value::Value;

@@ -8,10 +8,10 @@ ghost use Rattle.tcl_prepared.specs.Brackets.{IsBracket};
 use crate::pieces::commands_pieces;
 use std::alloc::Global;
 use std::marker::Model;
+use tcl_frames::variable_name::VariableName;
 use tcl_parser::fault::Fault;
 use tcl_text::text::Text;
 use tcl_value::value::Value;
-use tcl_frames::variable_name::VariableName;
 
 /// The words of a command each of which stands for itself. Contracts see them as their texts.
 pub struct Literals {

@@ -14,13 +14,13 @@ use crate::lists::{keep_in_values, keep_in_words};
 use crate::operand::Operand;
 use crate::prepared::{Bracket, Literals, Prepared, PreparedCommand, PreparedPart, PreparedWord};
 use std::alloc::{AllocError, Global};
+use tcl_frames::variable_name::VariableName;
 use tcl_parser::reader::parse;
 use tcl_parser::script::{Command, Part, Script, Word};
 use tcl_text::integer::{Integers, read_int};
 use tcl_text::list_comparing::is_int;
 use tcl_text::text::Text;
 use tcl_value::value::Value;
-use tcl_frames::variable_name::VariableName;
 
 /// How deep scripts in brackets are read with the script that they stand in.
 pub const MOST_LEVELS: u32 = 16;

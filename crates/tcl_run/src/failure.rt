@@ -14,12 +14,12 @@ use crate::interruption::Interruption;
 use std::alloc::{AllocError, Global};
 use tcl_flow::completion;
 use tcl_flow::stop::{Stop, StopKind};
+use tcl_frames::fault::quoted;
+use tcl_frames::name::with_colons;
 use tcl_text::list::write_list;
 use tcl_text::messages::{ALREADY_EXISTS, DENIED, TOO_LONG};
 use tcl_text::text::Text;
 use tcl_value::value::Value;
-use tcl_frames::fault::quoted;
-use tcl_frames::name::with_colons;
 use tcl_words::refusal::Refusal;
 
 /// The error of a message within the limit of a value.

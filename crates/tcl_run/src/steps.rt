@@ -24,13 +24,13 @@ use crate::outside::Outside;
 use std::alloc::{AllocError, Global};
 use tcl_flow::completion::OK;
 use tcl_flow::stop::{Stop, StopKind};
+use tcl_frames::fault::FrameError;
 use tcl_frames::frames::Frames;
+use tcl_frames::variable_name::VariableName;
 use tcl_text::list::ListError;
 use tcl_tree::tree::{Place, Tree};
 use tcl_value::list::List;
 use tcl_value::value::Value;
-use tcl_frames::fault::FrameError;
-use tcl_frames::variable_name::VariableName;
 
 /// The error that a refusal of the variables is.
 pub fn frame_failure(alloc: Global, error: FrameError) -> Interruption

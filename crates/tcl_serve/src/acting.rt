@@ -12,12 +12,12 @@ ghost use Rattle.tcl_tree.specs.Changes.{RefusesLimit, RefusesMake};
 ghost use Rattle.tcl_tree.specs.Naming.{Becomes, RefusesAt, RefusesThere, cleared, named};
 ghost use Rattle.tcl_tree.specs.TreeOf.{marks_of, tree_of};
 
-use crate::entering::values_of;
-use indexmap::map::Keys;
-use std::alloc::{AllocError, Global};
 use crate::answers::{Answer, Standing};
+use crate::entering::values_of;
 use crate::messages::{Alias, AliasToClient, ClearAlias, Create, LimitCount, LimitDepth};
 use crate::refusals::Refusal;
+use indexmap::map::Keys;
+use std::alloc::{AllocError, Global};
 use tcl_text::list::write_list;
 use tcl_text::text::Text;
 use tcl_tree::refusal::TreeError;

@@ -9,8 +9,13 @@ ghost use Rattle.tcl_serve.specs.declared.open.Next.TheVariants as next;
 ghost use Rattle.tcl_functions.specs.Actions.{action_of};
 ghost use Rattle.tcl_serve.specs.Talking.{Listens, Replies};
 
+use crate::answers::{Answer, ClientCall, Ended, call_line};
 use crate::entering::Asked;
+use crate::lines::{Ending, Lines};
+use crate::messages::Message;
 use crate::open::{Awaited, Next, Talk};
+use crate::refusals::Refusal;
+use crate::talking::{hear, reply};
 use std::alloc::{AllocError, Global};
 use std::io::{BufRead, Write};
 use std::marker::Model;
@@ -18,11 +23,6 @@ use tcl_flow::completion::{Completion, OK};
 use tcl_functions::action::Action;
 use tcl_functions::call::Call;
 use tcl_functions::functions::Functions;
-use crate::answers::{Answer, ClientCall, Ended, call_line};
-use crate::lines::{Ending, Lines};
-use crate::messages::Message;
-use crate::refusals::Refusal;
-use crate::talking::{hear, reply};
 use tcl_text::text::Text;
 use tcl_value::value::Value;
 

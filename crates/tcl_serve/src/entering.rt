@@ -6,11 +6,11 @@ ghost use Rattle.tcl_serve.specs.Messages.{ask_of, evaluation_of};
 ghost use Rattle.tcl_serve.specs.declared.messages.Ask.TheVariants as ask;
 ghost use Rattle.tcl_run.specs.Entering.{whole_entry};
 
-use std::alloc::Global;
 use crate::messages::{
     Alias, AliasToClient, Ask, ClearAlias, Create, Evaluate, LimitCount, LimitDepth,
 };
 use crate::refusals::Refusal;
+use std::alloc::Global;
 use tcl_run::entry::{Entry, OwnEntry};
 use tcl_text::text::Text;
 use tcl_tree::alias;

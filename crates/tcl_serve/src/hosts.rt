@@ -7,11 +7,11 @@ ghost use Rattle.tcl_serve.specs.declared.answers.Answer.TheVariants as answer;
 ghost use Rattle.tcl_serve.specs.declared.messages.Channel.TheVariants as channel;
 ghost use Rattle.tcl_serve.specs.declared.refusals.Refusal.TheVariants.{Memory};
 
-use std::alloc::{AllocError, Global};
-use tcl_host::memory::MemoryHost;
 use crate::answers::Answer;
 use crate::messages::{Channel, PutFile};
 use crate::refusals::Refusal;
+use std::alloc::{AllocError, Global};
+use tcl_host::memory::MemoryHost;
 use tcl_text::text::Text;
 
 /// A host in memory, and how much of what was written to its channels was taken.

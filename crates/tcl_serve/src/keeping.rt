@@ -6,12 +6,12 @@ ghost use Rattle.tcl_replay.specs.Saved.{saved_of};
 ghost use Rattle.tcl_serve.specs.Keeping.{Plays, leads_out, lines_in, of_unplayed, of_unsaved};
 ghost use Rattle.tcl_serve.specs.Keeping.{SavesAt, outward, under};
 
+use crate::answers::Replayed;
 use crate::evaluating::refusal_of;
+use crate::refusals::Refusal;
 use std::alloc::{AllocError, Global};
 use tcl_eval::running::Refused;
 use tcl_player::moves::moves_of;
-use crate::answers::Replayed;
-use crate::refusals::Refusal;
 use tcl_record_texts::lines::{crossing_line, outcome_text};
 use tcl_recorder::crossing::Crossing;
 use tcl_recorder::record::Record;

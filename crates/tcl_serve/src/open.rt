@@ -8,10 +8,10 @@ ghost use Rattle.tcl_serve.specs.Messages.{asks_of};
 ghost use Rattle.tcl_serve.specs.declared.refusals.Refusal.TheVariants.{CallOpen, NotOpen};
 
 use crate::entering::{Asked, entry_of, evaluation};
-use std::alloc::Global;
-use tcl_flow::completion::Completion;
 use crate::messages::{Message, Return};
 use crate::refusals::Refusal;
+use std::alloc::Global;
+use tcl_flow::completion::Completion;
 use tcl_value::value::Value;
 
 /// A message that is done as an entry, and is answered once the entry is.

@@ -8,11 +8,11 @@ ghost use Rattle.tcl_tree.specs.TreeOf.{alone, marks_of, new_root, tree_of};
 use crate::acting::{
     clear_alias, create, delete, limit_count, limit_depth, look, set_alias, set_client_alias,
 };
-use crate::hosts::ServedHost;
-use std::alloc::{AllocError, Global};
 use crate::answers::Answer;
+use crate::hosts::ServedHost;
 use crate::messages::Ask;
 use crate::refusals::Refusal;
+use std::alloc::{AllocError, Global};
 use tcl_text::integer::Integers;
 use tcl_tree::tree::Tree;
 

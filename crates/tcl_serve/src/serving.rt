@@ -4,10 +4,10 @@ ghost use Rattle.tcl_serve.specs.Views.{ClientView};
 ghost use Rattle.tcl_serve.specs.Serving.{IsServed, Turns};
 
 use crate::client::Client;
+use crate::lines::Ending;
 use crate::session::Session;
 use std::alloc::Global;
 use std::io::{BufRead, Write};
-use crate::lines::Ending;
 
 /// Serves the client at the other end of a reader and a writer: each line that is read is answered
 /// by one that is written, and a call that leaves a tree is a line of its own, until no line can be

@@ -4,17 +4,17 @@ ghost use Rattle.tcl_serve.specs.Messages.{asks_of, evaluation_of, place_of, ask
 ghost use Rattle.tcl_serve.specs.Messages as asks;
 ghost use Rattle.tcl_serve.specs.Sessions.{Answers, Does, IsEmpty};
 
+use crate::answers::Answer;
 use crate::client::Client;
 use crate::evaluating::{evaluate, watch};
+use crate::fields::Field;
 use crate::keeping::{replayed, save_at};
+use crate::messages::{Ask, Compare, Evaluate, Interpreter, Message, Replay, Watch};
 use crate::numbered::Numbered;
+use crate::refusals::Refusal;
 use crate::served::ServedTree;
 use std::alloc::Global;
 use std::io::{BufRead, Write};
-use crate::answers::Answer;
-use crate::fields::Field;
-use crate::messages::{Ask, Compare, Evaluate, Interpreter, Message, Replay, Watch};
-use crate::refusals::Refusal;
 use tcl_recorder::record::Record;
 use tcl_replay::saving::Saved;
 use tcl_text::integer::Integers;

@@ -6,13 +6,13 @@ ghost use Rattle.slab.specs.Slab.{get};
 ghost use Rattle.tcl_tree.specs.Nodes.{IsSound, IsGuarded};
 ghost use Rattle.tcl_tree.specs.Held.{IsOrdered};
 
+use crate::readings::Readings;
 use crate::tree::limits::MOST_DEPTH;
 use indexmap::IndexMap;
 use slab::Slab;
 use std::alloc::{AllocError, Global};
 use std::cell::RefCell;
 use tcl_interpreter::node::{Meter, Node, State};
-use crate::readings::Readings;
 use tcl_text::integer::Integers;
 use tcl_text::text::Text;
 

@@ -5,11 +5,11 @@ ghost use Rattle.tcl_frames.specs.Faults.{Refuses};
 ghost use Rattle.tcl_frames.specs.Chain.{read, after_set};
 ghost use Rattle.tcl_frames.specs.LendingChain.{LendsNear};
 
+use crate::fault::FrameError;
 use crate::frames::Frames;
+use crate::variable_name::VariableName;
 use std::alloc::{AllocError, Global};
 use tcl_value::value::Value;
-use crate::fault::FrameError;
-use crate::variable_name::VariableName;
 
 impl Frames {
     /// The value that a name holds, if it is that of a variable of the current frame and no array

@@ -11,12 +11,12 @@ use crate::tree_rows::words::{pairs_of, place_of, value_of, values_of, words_of}
 use row_runner::World;
 use std::alloc::{AllocError, Global};
 use std::mem::swap;
+use tcl_frames::fault::FrameError;
 use tcl_frames::frames::Frames;
+use tcl_frames::name_map::NameMap;
 use tcl_frames::scope::Scope;
 use tcl_text::text::Text;
 use tcl_value::value::Value;
-use tcl_frames::fault::FrameError;
-use tcl_frames::name_map::NameMap;
 
 impl Told for FrameError {
     fn show(&self, alloc: Global) -> Result<String, AllocError> {

@@ -8,10 +8,10 @@ use crate::tree_rows::words::{pairs_of, place_of, value_of, words_of};
 use row_runner::World;
 use std::alloc::{AllocError, Global};
 use std::mem::swap;
-use tcl_text::text::Text;
-use tcl_value::value::Value;
 use tcl_frames::comparing::Same;
 use tcl_frames::name_map::NameMap;
+use tcl_text::text::Text;
+use tcl_value::value::Value;
 
 /// The answer of a call that changes the map.
 fn done(alloc: Global, changed: Result<(), AllocError>) -> Result<Answer, AllocError> {

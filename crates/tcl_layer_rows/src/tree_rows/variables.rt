@@ -8,12 +8,12 @@ use crate::tree_rows::chains::show_value;
 use crate::tree_rows::words::{value_of, values_of, words_of};
 use row_runner::World;
 use std::alloc::{AllocError, Global};
-use tcl_text::text::Text;
 use tcl_frames::access::{Part, elements_in, holds_in, value_in};
 use tcl_frames::comparing::Same;
 use tcl_frames::frame::{Change, Frame};
 use tcl_frames::name::{Written, element_text, is_plain_name, read_name};
 use tcl_frames::variable::LinkTarget;
+use tcl_text::text::Text;
 
 /// What a call answers on the parts of a name.
 fn of_written(alloc: Global, call: &str, name: Written<'_>) -> Result<Answer, AllocError> {

@@ -1,7 +1,7 @@
 //! Calls below the commands: values written behind one another, and what is told of a place.
 use std::alloc::Global;
-use tcl_lists::refusing::not_made;
 use tcl_lists::fault::NestedFault;
+use tcl_lists::refusing::not_made;
 use tcl_text::text::Text;
 use tcl_value::value::Value;
 use tcl_words::refusal::Refusal;

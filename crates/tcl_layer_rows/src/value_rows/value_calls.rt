@@ -5,11 +5,11 @@ use crate::value_rows::answers::{
 use crate::value_rows::commands::changed_by_command;
 use crate::value_rows::reading::{Call, Verb, number_of, path_of, places_of};
 use std::alloc::Global;
-use tcl_lists::nested::{remove_key, set_element, set_value};
 use tcl_lists::fault::NestedError;
-use tcl_tree::readings::Readings;
+use tcl_lists::nested::{remove_key, set_element, set_value};
 use tcl_text::integer::{IntegerFault, Integers};
 use tcl_text::list::ListError;
+use tcl_tree::readings::Readings;
 use tcl_value::dict_fault::DictError;
 use tcl_value::value::{Value, ValueError};
 use tcl_words::refusal::Refusal;

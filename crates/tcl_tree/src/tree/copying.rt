@@ -3,6 +3,7 @@ ghost use Rattle.std.specs.Prelude.{◌≡◌, IfOk, IfErr, IfSome, IfNone, OnOk
 ghost use Rattle.std.specs.Prelude.{Some};
 ghost use Rattle.slab.specs.Slab.{get};
 
+use crate::readings::Readings;
 use crate::tree::Tree;
 use slab::Slab;
 use std::alloc::AllocError;
@@ -10,7 +11,6 @@ use std::cell::RefCell;
 use tcl_interpreter::node::Node;
 use tcl_interpreter::refusal::TreeError;
 use tcl_interpreter::steps::join;
-use crate::readings::Readings;
 use tcl_text::text::Text;
 
 impl Tree {

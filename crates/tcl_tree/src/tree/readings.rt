@@ -4,12 +4,12 @@ ghost use Rattle.tcl_expr.specs.Expressions.{expression_of};
 ghost use Rattle.tcl_parser.specs.Reading.{read_script};
 ghost use Rattle.tcl_tree.specs.Kept.{Gives};
 
+use crate::readings::Readings;
 use crate::tree::Tree;
 use std::alloc::{AllocError, Global};
 use std::rc::Rc;
 use tcl_expr::fault::ExprError;
 use tcl_expr::tree::ExprTree;
-use crate::readings::Readings;
 use tcl_prepared::prepared::Prepared;
 use tcl_text::integer::Integers;
 use tcl_text::text::Text;
