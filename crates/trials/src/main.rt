@@ -1,32 +1,66 @@
 //! The program that tries the interpreter: it puts all rows, of whole runs and of the layers below
-//! them, and then takes the times of the benches. The word `rows` or `benches` behind its name asks
-//! for these alone.
+//! them, runs an embedder's programs, and takes the times of the benches. The word `rows`,
+//! `examples` or `benches` behind its name asks for these alone.
 #![tactic(auto)]
 
-use std::{env, io};
+mod benches;
+mod rows;
 
-/// Whether the program was given a word.
-fn has_word(rt: &HostRuntime, wanted: &str) -> io::Result<bool> {
-    'words: for word in env::args(rt)? {
-        if word.as_str() == wanted {
-            return Ok(true);
+use std::{env, io};
+use tcl_embed::EmbedError;
+
+/// What the program does.
+#[derive(Clone, Copy)]
+enum Part {
+    Rows,
+    Examples,
+    Benches,
+}
+
+/// All of it. The rows of whole runs come first: they refuse each allocation of a run in turn.
+const PARTS: [Part; 3] = [Part::Rows, Part::Examples, Part::Benches];
+
+impl Part {
+    /// The part that a word asks for.
+    fn named(word: &str) -> Option<Part> {
+        match word {
+            "rows" => Some(Part::Rows),
+            "examples" => Some(Part::Examples),
+            "benches" => Some(Part::Benches),
+            _ => None,
         }
     }
-    Ok(false)
-}
 
-/// Puts the rows. Those of whole runs come first: they refuse each allocation of a run in turn.
-fn run_rows(rt: &HostRuntime) -> io::Result<()> {
-    tcl_rows::run(rt)?;
-    tcl_layer_rows::run(rt)
-}
-
-fn main(rt: HostRuntime) -> io::Result<()> {
-    if !has_word(&rt, "benches")? {
-        run_rows(&rt)?;
+    /// Does it.
+    fn run(self, rt: &HostRuntime) -> Result<(), EmbedError> {
+        match self {
+            Part::Rows => {
+                rows::run(rt)?;
+                tcl_layer_rows::run(rt)?;
+            }
+            Part::Examples => examples::run(rt)?,
+            Part::Benches => benches::measure(rt)?,
+        }
+        Ok(())
     }
-    if !has_word(&rt, "rows")? {
-        benches::measure(&rt)?;
+}
+
+/// The part that the program's words ask for, if one of them does.
+fn chosen(rt: &HostRuntime) -> io::Result<Option<Part>> {
+    'words: for word in env::args(rt)? {
+        if let Some(part) = Part::named(word.as_str()) {
+            return Ok(Some(part));
+        }
+    }
+    Ok(None)
+}
+
+fn main(rt: HostRuntime) -> Result<(), EmbedError> {
+    if let Some(part) = chosen(&rt)? {
+        return part.run(&rt);
+    }
+    'parts: for part in PARTS {
+        part.run(&rt)?;
     }
     Ok(())
 }

@@ -1,5 +1,5 @@
 //! Times of values that are changed in loops.
-use crate::measuring::measured;
+use crate::benches::measuring::measured;
 use std::alloc::{AllocError, Global};
 use std::io;
 use tcl_lists::nested::{remove_key, set_element, set_value};

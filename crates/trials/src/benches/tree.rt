@@ -3,7 +3,7 @@
 ghost use Rattle.std.specs.Prelude.{List, ℕ};
 ghost use Rattle.tcl_tree.specs.TreeOf.{Names};
 
-use crate::measuring::took;
+use crate::benches::measuring::took;
 use std::alloc::Global;
 use std::io;
 use std::time::Instant;

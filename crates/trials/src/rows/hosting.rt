@@ -1,5 +1,5 @@
 //! Calls of the host, and runs of the program over it.
-use crate::world::{Trees, count_of, done, no_call, number_of};
+use crate::rows::world::{Trees, count_of, done, no_call, number_of};
 use std::alloc::{AllocError, Global};
 use tcl_host::host::Host;
 use tcl_host::memory::MemoryHost;

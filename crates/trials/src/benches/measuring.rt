@@ -25,7 +25,7 @@ macro_rules! measured {
     ($rt:expr, $name:expr, $work:expr) => {
         let start = std::time::Instant::now($rt)?;
         let came = $work;
-        $crate::measuring::tell($rt, $name, start, &came)?;
+        $crate::benches::measuring::tell($rt, $name, start, &came)?;
     };
 }
 

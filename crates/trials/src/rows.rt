@@ -52,8 +52,6 @@
 //! Want of memory (`memory.rt`): `eval_again SCRIPT`, `watch_again NAME SCRIPT`, `save_again NAME
 //! LABEL` and `play_again LABEL STEPS MOVES` answer as those without `_again`, whichever of their
 //! allocations is refused.
-#![tactic(auto)]
-
 mod beginnings;
 mod ending;
 mod evaluating;
@@ -65,8 +63,8 @@ mod watching;
 mod world;
 mod writing;
 
-use crate::scripts::{Beginnings, Scripts};
-use crate::world::Trees;
+use crate::rows::scripts::{Beginnings, Scripts};
+use crate::rows::world::Trees;
 use row_runner::{run as run_file, run_beginnings};
 use std::io;
 use tcl_text::integer::Integers;

@@ -1,5 +1,5 @@
 //! The time of evaluating a kept expression with its two values handed in, and of long sums.
-use crate::measuring::took;
+use crate::benches::measuring::took;
 use std::alloc::{AllocError, Global};
 use std::io;
 use std::time::Instant;

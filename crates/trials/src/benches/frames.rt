@@ -1,5 +1,5 @@
 //! Times of frames and their variables.
-use crate::measuring::{measured, took};
+use crate::benches::measuring::{measured, took};
 use std::alloc::{AllocError, Global};
 use std::io;
 use std::time::Instant;

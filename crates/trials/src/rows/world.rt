@@ -1,7 +1,7 @@
 //! What the rows of a group share, and which function answers a call.
-use crate::beginnings::{Way, beginnings};
-use crate::ending::{STEPS, evaluated};
-use crate::{evaluating, hosting, memory, playing, watching};
+use crate::rows::beginnings::{Way, beginnings};
+use crate::rows::ending::{STEPS, evaluated};
+use crate::rows::{evaluating, hosting, memory, playing, watching};
 use row_runner::World;
 use std::alloc::{AllocError, Global};
 use tcl_host::memory::MemoryHost;

@@ -1,6 +1,6 @@
 //! Calls that evaluate scripts in the tree.
-use crate::ending::{self, STEPS, evaluated};
-use crate::world::{Trees, count_of, done, no_call, number_of};
+use crate::rows::ending::{self, STEPS, evaluated};
+use crate::rows::world::{Trees, count_of, done, no_call, number_of};
 use std::alloc::{AllocError, Global};
 use tcl_eval::running::{OpenEnd, Refused, open_run};
 use tcl_player::player::Player;

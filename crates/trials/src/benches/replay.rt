@@ -1,7 +1,7 @@
 //! The times of watching and of replaying: a safe child that calls its parent by an alias,
 //! evaluated unwatched, watched, and replayed by itself.
-use crate::measuring::took;
-use crate::running::{STEPS, Size, result_of, run};
+use crate::benches::measuring::took;
+use crate::benches::running::{STEPS, Size, result_of, run};
 use std::alloc::{AllocError, Global};
 use std::io;
 use std::time::Instant;

@@ -1,5 +1,5 @@
 //! Scripts, each of them in a tree and over a host of its own.
-use crate::ending::{STEPS, evaluated, run};
+use crate::rows::ending::{STEPS, evaluated, run};
 use row_runner::World;
 use std::alloc::{AllocError, Global};
 use tcl_host::memory::MemoryHost;

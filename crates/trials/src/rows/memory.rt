@@ -3,10 +3,10 @@
 //!
 //! `rt try --fail-alloc N` refuses the one of that number in the whole run, so that the call which
 //! is made once more is answered.
-use crate::ending::{STEPS, evaluated};
-use crate::watching::{saved, watch_outside};
-use crate::world::Trees;
-use crate::{evaluating, watching};
+use crate::rows::ending::{STEPS, evaluated};
+use crate::rows::watching::{saved, watch_outside};
+use crate::rows::world::Trees;
+use crate::rows::{evaluating, watching};
 use std::alloc::{AllocError, Global};
 use tcl_eval::running::Refused;
 use tcl_host::memory::MemoryHost;

@@ -1,7 +1,7 @@
 //! The times of the scripts of a file of rows. Each line has a name, how often the script does its
 //! work (in a small run and in a full one), and the script, in which `$count` is that number.
-use crate::measuring::took;
-use crate::running::{Size, result_of, run};
+use crate::benches::measuring::took;
+use crate::benches::running::{Size, result_of, run};
 use std::alloc::{AllocError, Global};
 use std::time::Instant;
 use std::{fs, io};

@@ -2,8 +2,6 @@
 //! of a part behind the program's name picks it. What comes of the work goes to standard output and
 //! the times to standard error, so that standard output stays the same. The word `full` asks for
 //! the sizes of scripts that docs/PERFORMANCE.md tells of.
-#![tactic(auto)]
-
 mod expressions;
 mod frames;
 mod measuring;
@@ -13,7 +11,7 @@ mod scripts;
 mod tree;
 mod values;
 
-use crate::running::Size;
+use crate::benches::running::Size;
 use std::{env, io};
 
 /// What times are taken of.

@@ -1,7 +1,7 @@
 //! Calls that watch and save interpreters.
-use crate::ending::{self, STEPS};
-use crate::world::{Trees, done, no_call};
-use crate::writing;
+use crate::rows::ending::{self, STEPS};
+use crate::rows::world::{Trees, done, no_call};
+use crate::rows::writing;
 use std::alloc::{AllocError, Global};
 use tcl_eval::running::{End, Refused};
 use tcl_host::memory::MemoryHost;

@@ -1,11 +1,11 @@
 //! Every beginning of a script, each watched in a tree of its own in which another script was run
 //! before.
-use crate::ending::{STEPS, evaluated};
-use crate::playing::played;
-use crate::scripts::is_told_incomplete;
-use crate::watching::{Watched, saved, watch_inside, watch_outside};
-use crate::world::Trees;
-use crate::writing::{crossings, show};
+use crate::rows::ending::{STEPS, evaluated};
+use crate::rows::playing::played;
+use crate::rows::scripts::is_told_incomplete;
+use crate::rows::watching::{Watched, saved, watch_inside, watch_outside};
+use crate::rows::world::Trees;
+use crate::rows::writing::{crossings, show};
 use std::alloc::{AllocError, Global};
 use tcl_host::memory::MemoryHost;
 use tcl_player::moves::moves_of;

@@ -4,8 +4,8 @@
 //! That is `back` and an ordinary completion; `stop` and how many levels up the interpreter is that
 //! a stop names; `exit`, the exit of status 3; `ended`, an end from outside; or what a host says:
 //! `line` and the line, `rest` and all that was left, `refused` and the number of a refusal.
-use crate::world::{Trees, no_call, number_of};
-use crate::writing;
+use crate::rows::world::{Trees, no_call, number_of};
+use crate::rows::writing;
 use std::alloc::{AllocError, Global};
 use tcl_flow::completion;
 use tcl_flow::stop::{Stop, StopKind};
