@@ -10,7 +10,7 @@ mod Handling
 mod Keeping
 mod Kept
 mod Levelling
-mod Naming
+mod KeptNames
 mod Stops
 mod Turning
 mod Walking

@@ -15,7 +15,7 @@ use Rattle.tcl_value.specs.Dicts.{Pairs, put, value_of, dict_of}
 use Rattle.tcl_value.specs.Inside.{at_list, at_dict, value_or_empty, entry_made, elements_added}
 use Rattle.tcl_value.specs.declared.dict_fault.DictFault.{DictFault}
 use Rattle.tcl_lists.proofs.NestedLengths.{value_longer}
-use Rattle.tcl_lists.proofs.Places.{same_some}
+use Rattle.tcl_lists.proofs.NestedPlaces.{same_some}
 use Rattle.tcl_lists.specs.Lists.{Texts, list_value}
 use Rattle.tcl_dicts.specs.Dicts.{dict_or, dict_value}
 use Rattle.tcl_dicts.specs.Changing.{lengthened, lappend_of, put_of, joined, appended, append_of}

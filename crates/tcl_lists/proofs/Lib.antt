@@ -13,6 +13,6 @@ pub mod SortOptions
 pub mod Orders
 pub mod NestedLengths
 pub mod Levels
-pub mod Places
+pub mod NestedPlaces
 pub mod Placed
 pub mod Named

@@ -1,7 +1,7 @@
 use Rattle.std.proofs.Common.{◌≡◌, false, Some, sym, ◌∙◌, ap}
 use Rattle.tcl_core.specs.Paths.{Text}
 use Rattle.tcl_frames.specs.Names.{has_colons}
-use Rattle.tcl_calls.proofs.Naming.{kept_whole}
+use Rattle.tcl_calls.proofs.KeptNames.{kept_whole}
 use Rattle.tcl_calls.proofs.lookup.kept_name.Goals as goal
 
 pub returns-then-not-with_colons : goal.returns-then-not-with_colons

@@ -4,7 +4,7 @@ use Rattle.tcl_core.specs.Trees.{Node}
 use Rattle.tcl_interpreter.specs.Own.{command_in}
 use Rattle.tcl_tree.specs.Own.{Own}
 use Rattle.tcl_frames.specs.Names.{has_colons}
-use Rattle.tcl_calls.proofs.Naming.{found_kept}
+use Rattle.tcl_calls.proofs.KeptNames.{found_kept}
 use Rattle.tcl_calls.proofs.lookup.standing.Goals as goal
 
 pub returns : goal.returns

@@ -1,6 +1,6 @@
 use Rattle.std.proofs.Common.{◌∷◌, ◌-◌, ◌++◌, [], take, drop, length}
 use Rattle.tcl_lists.proofs.Placed.{first_and_rest}
-use Rattle.tcl_lists.proofs.Places.{leads_true, pushed}
+use Rattle.tcl_lists.proofs.NestedPlaces.{leads_true, pushed}
 use Rattle.tcl_lists.proofs.nested.+find_places.Goals as goal
 
 pub returns-clause-found : goal.returns-clause-found

@@ -1,4 +1,4 @@
-use Rattle.tcl_lists.proofs.Places.{placed_found}
+use Rattle.tcl_lists.proofs.NestedPlaces.{placed_found}
 use Rattle.tcl_lists.proofs.nested.put_in_place.Goals as goal
 
 pub returns-clause-changed : goal.returns-clause-changed

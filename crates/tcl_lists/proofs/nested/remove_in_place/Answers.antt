@@ -1,4 +1,4 @@
-use Rattle.tcl_lists.proofs.Places.{led_true}
+use Rattle.tcl_lists.proofs.NestedPlaces.{led_true}
 use Rattle.tcl_lists.proofs.nested.remove_in_place.Goals as goal
 
 pub returns-clause-changed : goal.returns-clause-changed

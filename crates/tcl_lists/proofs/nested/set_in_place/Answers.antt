@@ -1,4 +1,4 @@
-use Rattle.tcl_lists.proofs.Places.{made_true}
+use Rattle.tcl_lists.proofs.NestedPlaces.{made_true}
 use Rattle.tcl_lists.proofs.nested.set_in_place.Goals as goal
 
 pub returns-clause-changed : goal.returns-clause-changed
