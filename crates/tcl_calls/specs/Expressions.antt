@@ -13,10 +13,10 @@ use Rattle.tcl_expression_evaluation.specs.declared.evaluation.Progress.{Progres
 use Rattle.tcl_expression_evaluation.specs.declared.evaluation.Progress.TheVariants as progress
 use Rattle.tcl_expr.specs.declared.tree.ExprTree.{ExprTree}
 use Rattle.tcl_language.specs.Instructions.{Program, or_fails}
-use Rattle.tcl_operators.specs.Messages.{message_of}
-use Rattle.tcl_operators.specs.declared.fault.OperatorFault.{OperatorFault}
-use Rattle.tcl_operators.specs.declared.fault.ApplyError.{ApplyError}
-use Rattle.tcl_operators.specs.declared.fault.ApplyError.TheVariants as error
+use Rattle.tcl_expression_evaluation.specs.Messages.{message_of}
+use Rattle.tcl_expression_evaluation.specs.declared.fault.OperatorFault.{OperatorFault}
+use Rattle.tcl_expression_evaluation.specs.declared.fault.ApplyError.{ApplyError}
+use Rattle.tcl_expression_evaluation.specs.declared.fault.ApplyError.TheVariants as error
 use Rattle.tcl_run.specs.Ends.{Interrupts, failing}
 use Rattle.tcl_run.specs.declared.interruption.Interruption.{Interruption}
 use Rattle.tcl_run.specs.declared.interruption.Interruption.TheVariants as interruption

@@ -19,7 +19,7 @@ use Rattle.tcl_language.specs.Instructions.Instr.{Parts, Expression}
 use Rattle.tcl_run.specs.Language.{language}
 use Rattle.tcl_language.specs.Scripts.{parts}
 use Rattle.tcl_language.specs.Words.{concat}
-use Rattle.tcl_operators.specs.Messages.{message_of as operator_message}
+use Rattle.tcl_expression_evaluation.specs.Messages.{message_of as operator_message}
 use Rattle.tcl_expression_evaluation.specs.AtHand.{comes_to, IsNumberAtHand}
 use Rattle.tcl_expression_evaluation.proofs.UnderWay.{leads}
 use Rattle.tcl_parser.specs.Words.{WordRead}

@@ -22,9 +22,9 @@ use Rattle.tcl_language.specs.Instructions.Instr.{Script, Parts, Expression}
 use Rattle.tcl_run.specs.Language.{language}
 use Rattle.tcl_language.specs.Scripts.{script, parts}
 use Rattle.tcl_language.specs.Words.{concat}
-use Rattle.tcl_operators.specs.Apply.{truth}
-use Rattle.tcl_operators.specs.Messages.{message_of as operator_message}
-use Rattle.tcl_operators.specs.declared.fault.OperatorFault.{OperatorFault}
+use Rattle.tcl_expression_evaluation.specs.Apply.{truth}
+use Rattle.tcl_expression_evaluation.specs.Messages.{message_of as operator_message}
+use Rattle.tcl_expression_evaluation.specs.declared.fault.OperatorFault.{OperatorFault}
 use Rattle.tcl_parser.specs.Words.{WordRead}
 use Rattle.tcl_run.specs.declared.interruption.Interruption.{Interruption}
 use Rattle.tcl_run.specs.declared.interruption.Interruption.TheVariants as interruption

@@ -3,8 +3,8 @@ use Rattle.std.proofs.Common.{◌≡◌, ◌∙◌, sym, ap, refl, ℕ, zero, su
 use Rattle.std.proofs.lemmas.List.{drop_more}
 use Rattle.std.proofs.Math.ListN.{drop_of_length-le}
 use Rattle.std.proofs.Common.{get_or, Ok, Err}
-use Rattle.tcl_operators.specs.declared.fault.ApplyError.{ApplyError}
-use Rattle.tcl_operators.specs.declared.fault.ApplyError.TheVariants as error
+use Rattle.tcl_expression_evaluation.specs.declared.fault.ApplyError.{ApplyError}
+use Rattle.tcl_expression_evaluation.specs.declared.fault.ApplyError.TheVariants as error
 use Rattle.tcl_parser.specs.Words.{WordRead}
 use Rattle.tcl_text.specs.declared.integer.Integers.{Integers}
 use Rattle.tcl_value.specs.Limits.{Bytes}

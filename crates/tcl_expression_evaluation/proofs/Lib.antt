@@ -8,3 +8,8 @@ pub mod Waiting
 pub mod Operators
 pub mod UnderWay
 pub mod Worked
+pub mod Digitwise
+pub mod Numbers
+pub mod Truths
+pub mod Lists
+pub mod Characters

@@ -4,9 +4,9 @@ use Rattle.tcl_text.specs.declared.integer.Integers.{Integers}
 use Rattle.tcl_value.specs.Limits.{Bytes}
 use Rattle.tcl_expr.specs.declared.operator.BinaryOperator.{BinaryOperator}
 use Rattle.tcl_expr.specs.declared.operator.BinaryOperator.TheVariants as operator
-use Rattle.tcl_operators.specs.declared.fault.ApplyError.{ApplyError}
-use Rattle.tcl_operators.specs.declared.fault.ApplyError.TheVariants as error
-use Rattle.tcl_operators.specs.Apply.{Refuses, truth, answer}
+use Rattle.tcl_expression_evaluation.specs.declared.fault.ApplyError.{ApplyError}
+use Rattle.tcl_expression_evaluation.specs.declared.fault.ApplyError.TheVariants as error
+use Rattle.tcl_expression_evaluation.specs.Apply.{Refuses, truth, answer}
 use Rattle.tcl_expression_evaluation.specs.Computations.{needing, decided}
 use Rattle.tcl_expression_evaluation.specs.Steps.{Answers}
 

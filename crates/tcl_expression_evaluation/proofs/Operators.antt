@@ -6,8 +6,8 @@ use Rattle.tcl_value.specs.Limits.{Bytes}
 use Rattle.tcl_value.specs.Reading.{int_of}
 use Rattle.tcl_expr.specs.declared.operator.UnaryOperator.{UnaryOperator}
 use Rattle.tcl_expr.specs.declared.operator.UnaryOperator.TheVariants as unary
-use Rattle.tcl_operators.specs.Apply.{◌>>=◌, bit, answer, apply_unary}
-use Rattle.tcl_operators.proofs.Truths.{truth_of_number}
+use Rattle.tcl_expression_evaluation.specs.Apply.{◌>>=◌, bit, answer, apply_unary}
+use Rattle.tcl_expression_evaluation.proofs.Truths.{truth_of_number}
 
 twice : (t : Bool) → answer (not (not t)) ≡ signed_decimal (bit t)
 twice true = refl

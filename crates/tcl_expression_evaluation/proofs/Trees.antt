@@ -9,7 +9,7 @@ use Rattle.tcl_expr.specs.declared.operator.BinaryOperator.TheVariants as operat
 use Rattle.tcl_expr.specs.declared.operator.Function.{Function}
 use Rattle.tcl_expr.specs.declared.operator.UnaryOperator.{UnaryOperator}
 use Rattle.tcl_expr.specs.Trees.{Tree, leaf, unary, binary, choice, first, also}
-use Rattle.tcl_operators.specs.Apply.{truth, answer, apply_unary, apply_binary}
+use Rattle.tcl_expression_evaluation.specs.Apply.{truth, answer, apply_unary, apply_binary}
 use Rattle.tcl_expr.specs.declared.tree.Node.{Node}
 use Rattle.tcl_expr.specs.declared.tree.Node.TheVariants as node
 use Rattle.tcl_expr.specs.Code.{mark, function_of, count_of, before, code_of}

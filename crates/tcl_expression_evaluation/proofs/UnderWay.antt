@@ -14,7 +14,7 @@ use Rattle.tcl_value.specs.Reading.{int_of}
 use Rattle.tcl_value.proofs.Laws.{int_of-number}
 use Rattle.tcl_frames.specs.Places.{Levels}
 use Rattle.tcl_frames.specs.Chain.{read}
-use Rattle.tcl_operators.specs.Apply.{apply_unary, apply_binary}
+use Rattle.tcl_expression_evaluation.specs.Apply.{apply_unary, apply_binary}
 use Rattle.tcl_expr.specs.declared.operator.UnaryOperator.{UnaryOperator}
 use Rattle.tcl_expr.specs.declared.operator.BinaryOperator.{BinaryOperator}
 use Rattle.tcl_expr.specs.declared.token.Leaf.{Leaf}

@@ -3,3 +3,8 @@ pub mod Steps
 pub mod Laws
 pub mod AtHand
 pub mod NumberLaws
+pub mod Kinds
+pub mod WholeNumbers
+pub mod Characters
+pub mod Apply
+pub mod Messages

@@ -6,9 +6,9 @@ use Rattle.tcl_parser.specs.Words.{WordRead}
 use Rattle.tcl_value.specs.Limits.{Bytes}
 use Rattle.tcl_expr.specs.declared.operator.BinaryOperator.{BinaryOperator}
 use Rattle.tcl_expr.specs.declared.operator.BinaryOperator.TheVariants as operator
-use Rattle.tcl_operators.specs.declared.fault.ApplyError.{ApplyError}
-use Rattle.tcl_operators.specs.declared.fault.ApplyError.TheVariants as error
-use Rattle.tcl_operators.specs.Apply.{Outcome, truth, apply_unary, apply_binary}
+use Rattle.tcl_expression_evaluation.specs.declared.fault.ApplyError.{ApplyError}
+use Rattle.tcl_expression_evaluation.specs.declared.fault.ApplyError.TheVariants as error
+use Rattle.tcl_expression_evaluation.specs.Apply.{Outcome, truth, apply_unary, apply_binary}
 use Rattle.tcl_expr.specs.declared.tree.Node.{Node}
 use Rattle.tcl_expr.specs.declared.tree.Node.TheVariants as node
 use Rattle.tcl_expression_evaluation.specs.declared.evaluation.Progress.{Progress}

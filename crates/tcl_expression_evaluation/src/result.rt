@@ -2,7 +2,7 @@
 ghost use Rattle.std.specs.Prelude.{◌≡◌};
 ghost use Rattle.tcl_expression_evaluation.specs.Computations.{final};
 
-use tcl_operators::fault::OperatorFault;
+use crate::fault::OperatorFault;
 use tcl_text::integer::{IntegerFault, Integers};
 use tcl_value::value::Value;
 

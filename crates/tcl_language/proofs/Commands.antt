@@ -61,8 +61,8 @@ use Rattle.tcl_lists.specs.Splitting.{split_of}
 use Rattle.tcl_dicts.specs.Changing as dict_changing
 use Rattle.tcl_lists.specs.Changing.{lset_of}
 use Rattle.tcl_lists.specs.Lists.{first_middle_last, two_and_rest, lappend_of, lassign_rest, lindex_of, linsert_of, llength_of, lrange_of, lrepeat_of, lreplace_of, lreverse_of}
-use Rattle.tcl_operators.specs.Apply.{truth}
-use Rattle.tcl_operators.specs.Messages as operators
+use Rattle.tcl_expression_evaluation.specs.Apply.{truth}
+use Rattle.tcl_expression_evaluation.specs.Messages as operators
 use Rattle.tcl_parser.specs.Words.{WordRead}
 use Rattle.tcl_parser.specs.declared.fault.Fault.{Fault}
 use Rattle.tcl_parser.specs.declared.script.Part.{Part}

@@ -9,8 +9,8 @@ use Rattle.tcl_core.specs.Programs.Prog.{done, act, go}
 use Rattle.tcl_text.specs.declared.integer.Integers.{Integers}
 use Rattle.tcl_expr.specs.Expressions.{expression_of}
 use Rattle.tcl_expr.specs.Faults as expr_faults
-use Rattle.tcl_operators.specs.Apply.{truth}
-use Rattle.tcl_operators.specs.Messages as operators
+use Rattle.tcl_expression_evaluation.specs.Apply.{truth}
+use Rattle.tcl_expression_evaluation.specs.Messages as operators
 use Rattle.tcl_expression_evaluation.specs.Computations.{Computation, value, refused, substitute}
 use Rattle.tcl_expression_evaluation.specs.Computations.{computation_of, final}
 use Rattle.tcl_language.specs.Instructions.{Program, either, fails, grown, on_ok, or_fails}

@@ -85,8 +85,8 @@ use Rattle.tcl_language.specs.Control.{after_body}
 use Rattle.tcl_language.specs.Expressions.{after_next, branches_of, computed, expr, expression, first_true, if_first}
 use Rattle.tcl_core.specs.Programs.Prog.{go}
 use Rattle.tcl_language.specs.Instructions.Instr.{Script, While, For}
-use Rattle.tcl_operators.specs.Apply.{truth}
-use Rattle.tcl_operators.specs.Messages.{message_of as operator_message}
+use Rattle.tcl_expression_evaluation.specs.Apply.{truth}
+use Rattle.tcl_expression_evaluation.specs.Messages.{message_of as operator_message}
 use Rattle.tcl_run.proofs.Proceeding.{charges, charge_refused, goes_done, goes_on}
 use Rattle.tcl_calls.specs.BranchesRead.{alone, branch_of, seen, tests_of}
 use Rattle.tcl_calls.specs.declared.branches.Branch.{Branch}
@@ -167,7 +167,7 @@ use Rattle.tcl_tree.specs.declared.tree.Tree.{Tree as Table}
 use Rattle.tcl_run.specs.Runs.{IsRunning}
 use Rattle.tcl_run.specs.Ends.{OnCompletion}
 use Rattle.tcl_value.proofs.Laws.{int_of-number}
-use Rattle.tcl_operators.proofs.Truths.{truth_of_number}
+use Rattle.tcl_expression_evaluation.proofs.Truths.{truth_of_number}
 use Rattle.tcl_evaluation.proofs.Plainly.{asking_last, evaluates_at_proceeds, evaluates_proceeds, gets_proceeds, looks_proceed, passes_proceeds, proceeds_as}
 use Rattle.tcl_run.specs.Runs.{room}
 use Rattle.tcl_run.specs.declared.outside.Turn.{Turn}

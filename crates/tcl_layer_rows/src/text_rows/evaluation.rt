@@ -8,7 +8,7 @@ use tcl_expr::parser::parse_expr;
 use tcl_expr::tree::ExprTree;
 use tcl_expression_evaluation::evaluation::{Evaluation, Progress};
 use tcl_expression_evaluation::result::final_value;
-use tcl_operators::fault::ApplyError;
+use tcl_expression_evaluation::fault::ApplyError;
 use tcl_prepared::operand::Operand;
 use tcl_prepared::prepared::{PreparedPart, PreparedWord};
 use tcl_text::integer::Integers;

@@ -3,8 +3,8 @@
 use crate::text_rows::answers::{no_call, text as show, whether};
 use std::alloc::{AllocError, Global};
 use tcl_expr::operator::{BinaryOperator, Function, UnaryOperator};
-use tcl_operators::apply::{apply_binary, apply_func, apply_unary, truth_of};
-use tcl_operators::fault::{ApplyError, OperatorFault};
+use tcl_expression_evaluation::apply::{apply_binary, apply_func, apply_unary, truth_of};
+use tcl_expression_evaluation::fault::{ApplyError, OperatorFault};
 use tcl_text::integer::Integers;
 use tcl_text::text::Text;
 use tcl_value::value::Value;

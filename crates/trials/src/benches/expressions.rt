@@ -6,7 +6,7 @@ use std::time::Instant;
 use tcl_expr::parser::parse_expr;
 use tcl_expr::tree::ExprTree;
 use tcl_expression_evaluation::evaluation::{Evaluation, Progress};
-use tcl_operators::fault::ApplyError;
+use tcl_expression_evaluation::fault::ApplyError;
 use tcl_text::integer::Integers::Tcl8;
 use tcl_value::value::Value;
 

@@ -1,6 +1,6 @@
 use Rattle.std.proofs.Common.{◌∙◌, ap, sym, true, false, Ok}
 use Rattle.std.proofs.lemmas.Result.{err_from_is_err_and}
-use Rattle.tcl_operators.specs.Apply.{answer}
+use Rattle.tcl_expression_evaluation.specs.Apply.{answer}
 use Rattle.tcl_expression_evaluation.specs.Computations.{needing, decided}
 use Rattle.tcl_expression_evaluation.proofs.Needs.{and_refused, or_refused}
 use Rattle.tcl_expression_evaluation.proofs.evaluation.answer_at.Goals as goal

@@ -1,5 +1,0 @@
-pub mod Digitwise
-pub mod Numbers
-pub mod Truths
-pub mod Lists
-pub mod Characters
