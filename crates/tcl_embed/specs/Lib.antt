@@ -13,8 +13,8 @@ pub use Rattle.tcl_host.specs.Hosts
 pub use Rattle.tcl_replay.specs.OpenWatched
 pub use Rattle.tcl_player.specs.Moves
 pub use Rattle.tcl_reactions.specs.Moving
-pub use Rattle.tcl_record_texts.specs.Lines
-pub use Rattle.tcl_record_texts.specs.Words
+pub use Rattle.tcl_player.specs.Lines
+pub use Rattle.tcl_player.specs.Words
 pub use Rattle.tcl_recorder.specs.Crossings
 pub use Rattle.tcl_recorder.specs.Records
 pub use Rattle.tcl_replay.specs.Replaying

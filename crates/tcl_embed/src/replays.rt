@@ -1,10 +1,10 @@
 //! Records that are replayed to a saved interpreter by itself.
 ghost use Rattle.std.specs.Prelude.{◌≡◌, IfOk};
 ghost use Rattle.std.specs.String.{string_bytes};
-ghost use Rattle.tcl_record_texts.specs.Lines.{replay_lines};
+ghost use Rattle.tcl_player.specs.Lines.{replay_lines};
 
 use std::alloc::{AllocError, Global};
-use tcl_record_texts::lines;
+use tcl_player::lines;
 
 /// The moves among crossings, as those of a record: the entries, and the answers that came back.
 pub use tcl_player::moves::moves_of;
@@ -13,7 +13,7 @@ pub use tcl_player::moves::Move;
 /// What came of moves: `Finished`, `Waiting`, `Ended`, `Exited`, `Spent` or `Misfit`.
 pub use tcl_player::player::Outcome;
 /// An outcome in words.
-pub use tcl_record_texts::lines::outcome_text;
+pub use tcl_player::lines::outcome_text;
 /// What a replay gives: the outcome, what the interpreter told, and how it was left.
 pub use tcl_replay::replaying::Replayed;
 /// Why nothing was replayed (401, 404, 412).

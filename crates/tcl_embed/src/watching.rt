@@ -23,8 +23,8 @@ pub use tcl_recorder::crossing::Reply;
 /// What came back to a call: a reply, or what the host said.
 pub use tcl_recorder::crossing::Answer;
 /// A record as lines of text, one for each crossing.
-pub use tcl_record_texts::lines::record_lines;
+pub use tcl_player::lines::record_lines;
 /// Crossings as lines of text, as those that `Replayed::outwards` gives.
-pub use tcl_record_texts::lines::crossing_lines;
+pub use tcl_player::lines::crossing_lines;
 /// One crossing as a line of text.
-pub use tcl_record_texts::lines::crossing_line;
+pub use tcl_player::lines::crossing_line;

@@ -1,3 +1,4 @@
 mod Lists
 mod Played
 mod Ways
+mod LineLemmas

@@ -1,3 +1,5 @@
 pub mod Moves
 pub mod Answering
 pub mod Players
+pub mod Lines
+pub mod Words

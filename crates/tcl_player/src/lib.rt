@@ -2,6 +2,10 @@
 #![tactic(auto)]
 
 mod answers;
+mod entries;
+pub mod lines;
 pub mod moves;
 pub mod player;
+mod replies;
 mod telling;
+mod words;

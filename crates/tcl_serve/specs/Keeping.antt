@@ -14,7 +14,7 @@ use Rattle.tcl_player.specs.declared.player.Outcome.{Outcome}
 use Rattle.tcl_serve.specs.declared.answers.Replayed.{Replayed}
 use Rattle.tcl_serve.specs.declared.refusals.Refusal.{Refusal}
 use Rattle.tcl_serve.specs.declared.refusals.Refusal.TheVariants as refusal
-use Rattle.tcl_record_texts.specs.Lines.{event_line, outcome_text}
+use Rattle.tcl_player.specs.Lines.{event_line, outcome_text}
 use Rattle.tcl_recorder.specs.Crossings.{events_of}
 use Rattle.tcl_recorder.specs.declared.crossing.Crossing.{Crossing}
 use Rattle.tcl_replay.specs.Replaying.{unfit}

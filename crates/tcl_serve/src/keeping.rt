@@ -1,6 +1,6 @@
 //! Records, and what they come to when they are replayed.
 ghost use Rattle.std.specs.Prelude.{◌≡◌, ◌↔◌, IfOk, IsTrue};
-ghost use Rattle.tcl_record_texts.specs.Lines.{line};
+ghost use Rattle.tcl_player.specs.Lines.{line};
 ghost use Rattle.tcl_recorder.specs.Crossings.{event_of, events_of};
 ghost use Rattle.tcl_replay.specs.Saved.{saved_of};
 ghost use Rattle.tcl_serve.specs.Keeping.{Plays, leads_out, lines_in, of_unplayed, of_unsaved};
@@ -12,7 +12,7 @@ use crate::refusals::Refusal;
 use std::alloc::{AllocError, Global};
 use tcl_eval::running::Refused;
 use tcl_player::moves::moves_of;
-use tcl_record_texts::lines::{crossing_line, outcome_text};
+use tcl_player::lines::{crossing_line, outcome_text};
 use tcl_recorder::crossing::Crossing;
 use tcl_recorder::record::Record;
 use tcl_replay::replaying::Unplayed;

@@ -6,7 +6,7 @@ use Rattle.tcl_core.specs.Views.{moves_of}
 use Rattle.tcl_run.specs.Language.{language}
 use Rattle.tcl_player.specs.Moves.{moves_in}
 use Rattle.tcl_player.specs.Players.{result_of}
-use Rattle.tcl_record_texts.specs.Lines.{outcome_text}
+use Rattle.tcl_player.specs.Lines.{outcome_text}
 use Rattle.tcl_recorder.specs.Crossings.{events_of}
 use Rattle.tcl_replay.specs.Saved.{saved_of}
 use Rattle.tcl_replay.specs.declared.saving.Saved.{Saved}

@@ -1,7 +1,7 @@
 //! How an entry or a call ended, in words.
 ghost use Rattle.std.specs.Prelude.{◌≡◌, IfOk};
 ghost use Rattle.tcl_flow.specs.Stopping.{kind_of};
-ghost use Rattle.tcl_record_texts.specs.Words.{answer_words, heard_words, kind_word, reply_words};
+ghost use Rattle.tcl_player.specs.Words.{answer_words, heard_words, kind_word, reply_words};
 ghost use Rattle.tcl_recorder.specs.Crossings.{answer_of, reply_of};
 ghost use Rattle.tcl_run.specs.Outsides as outsides;
 

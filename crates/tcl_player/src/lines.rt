@@ -19,9 +19,9 @@
 //! backslash and an `n`.
 ghost use Rattle.std.specs.Prelude.{◌≡◌, ◌++◌, ◌∷◌, IfOk, OnOk};
 ghost use Rattle.std.specs.String.{string_bytes};
-ghost use Rattle.tcl_record_texts.specs.Lines.{event_lines, line, lines, one_line, outcome_text};
-ghost use Rattle.tcl_record_texts.specs.Lines.{replay_lines};
-ghost use Rattle.tcl_record_texts.specs.Words.{crossing_words, height_word};
+ghost use Rattle.tcl_player.specs.Lines.{event_lines, line, lines, one_line, outcome_text};
+ghost use Rattle.tcl_player.specs.Lines.{replay_lines};
+ghost use Rattle.tcl_player.specs.Words.{crossing_words, height_word};
 ghost use Rattle.tcl_recorder.specs.Crossings.{event_of};
 ghost use Rattle.tcl_text.specs.Writing.{written_list};
 
@@ -29,7 +29,7 @@ use crate::entries::entry_words;
 use crate::replies::{answer_words, reply_words};
 use crate::words::{count_text, list_text, one};
 use std::alloc::{AllocError, Global};
-use tcl_player::player::Outcome;
+use crate::player::Outcome;
 use tcl_recorder::crossing::Crossing;
 use tcl_recorder::record::Record;
 use tcl_text::list::write_list;

@@ -6,7 +6,7 @@ use Rattle.tcl_core.specs.Paths.{Text}
 use Rattle.tcl_core.specs.Trees.{Event}
 use Rattle.tcl_player.specs.declared.player.Outcome.{Outcome}
 use Rattle.tcl_player.specs.declared.player.Outcome.TheVariants as outcome
-use Rattle.tcl_record_texts.specs.Words.{crossing_words}
+use Rattle.tcl_player.specs.Words.{crossing_words}
 use Rattle.tcl_recorder.specs.Crossings.{event_of, events_of}
 use Rattle.tcl_recorder.specs.declared.crossing.Crossing.{Crossing}
 use Rattle.tcl_text.specs.Writing.{written_list}

@@ -3,7 +3,7 @@ use Rattle.std.proofs.Common.{◌≡◌, ◌≢◌, ◌∙◌, ℕ, suc, ◌<◌
 use Rattle.std.specs.Prelude.{◌==◌, false}
 use Rattle.std.proofs.lemmas.Bool.{ne_eqb}
 use Rattle.std.proofs.lemmas.List.Concat.{flat_map-append}
-use Rattle.tcl_record_texts.specs.Lines.{line_byte, one_line}
+use Rattle.tcl_player.specs.Lines.{line_byte, one_line}
 
 -- no byte of these is a newline
 abbrev pub NoNewline : List ℕ → Type 0

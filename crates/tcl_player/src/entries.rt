@@ -1,7 +1,7 @@
 //! What is asked of an interpreter, or of the host, in words.
 ghost use Rattle.std.specs.Prelude.{◌≡◌, IfOk};
-ghost use Rattle.tcl_record_texts.specs.Words.{alias_words, entry_words, limit_word};
-ghost use Rattle.tcl_record_texts.specs.Words.{question_words, request_words, safe_word};
+ghost use Rattle.tcl_player.specs.Words.{alias_words, entry_words, limit_word};
+ghost use Rattle.tcl_player.specs.Words.{question_words, request_words, safe_word};
 ghost use Rattle.tcl_run.specs.Entering.{entry_of, mode_text, question_of, request_of, whole_entry};
 
 use crate::words::{count_text, list_text, number_text, one, three, two, with_values};

@@ -1,9 +1,9 @@
 use Rattle.std.proofs.Common.{rules, arith, ◌∙◌, ◌∷◌, [], ◌++◌, List, ℕ, Some, None, ap}
 use Rattle.std.proofs.lemmas.Str.Pattern.{split_parts}
 use Rattle.std.specs.String.{string_bytes}
-use Rattle.tcl_record_texts.specs.Lines.{one_line}
-use Rattle.tcl_record_texts.proofs.LineLemmas.{line_on, line_ends}
-use Rattle.tcl_record_texts.proofs.lines.one_line.Goals as goal
+use Rattle.tcl_player.specs.Lines.{one_line}
+use Rattle.tcl_player.proofs.LineLemmas.{line_on, line_ends}
+use Rattle.tcl_player.proofs.lines.one_line.Goals as goal
 
 pub newlines-preserved : goal.newlines-preserved
 newlines-preserved c =
