@@ -10,13 +10,13 @@ ghost use Rattle.tcl_expression_evaluation.specs.Computations.{Computation, oper
 ghost use Rattle.tcl_expression_evaluation.specs.AtHand.{comes_to, IsNumberAtHand, steps_of_two};
 ghost use Rattle.tcl_expression_evaluation.specs.AtHand.{ReadAs, Brings};
 
+use crate::apply::{compute, holds};
+use crate::kind::{Arithmetic, Kind, kind_of};
 use arrayvec::ArrayVec;
 use tcl_expr::operator::{BinaryOperator, UnaryOperator};
 use tcl_expr::token::Leaf;
 use tcl_expr::tree::{ExprTree, Node};
 use tcl_frames::frames::Frames;
-use crate::apply::{compute, holds};
-use crate::kind::{Arithmetic, Kind, kind_of};
 use tcl_text::integer::Integers;
 use tcl_value::value::Value;
 

@@ -9,12 +9,12 @@ ghost use Rattle.tcl_expression_evaluation.specs.Steps.{top, below, last_of, wit
 ghost use Rattle.tcl_expression_evaluation.specs.Steps.{mode_of, leaving, does, goes, from, Pushes};
 ghost use Rattle.tcl_expression_evaluation.specs.Steps.{Answers, Needs, Acts, Nears, Advances};
 
+use crate::apply::{apply_binary, apply_func, apply_unary, truth_of};
+use crate::fault::{ApplyError, Operator, OperatorFault};
 use std::alloc::{AllocError, Global};
 use tcl_expr::operator::{BinaryOperator, Function, UnaryOperator};
 use tcl_expr::token::Leaf;
 use tcl_expr::tree::{ExprTree, Node};
-use crate::apply::{apply_binary, apply_func, apply_unary, truth_of};
-use crate::fault::{ApplyError, Operator, OperatorFault};
 use tcl_prepared::operand::Operand;
 use tcl_text::integer::Integers;
 use tcl_value::value::Value;

@@ -26,10 +26,10 @@ ghost use Rattle.tcl_recorder.specs.Crossings.{event_of};
 ghost use Rattle.tcl_text.specs.Writing.{written_list};
 
 use crate::entries::entry_words;
+use crate::player::Outcome;
 use crate::replies::{answer_words, reply_words};
 use crate::words::{count_text, list_text, one};
 use std::alloc::{AllocError, Global};
-use crate::player::Outcome;
 use tcl_recorder::crossing::Crossing;
 use tcl_recorder::record::Record;
 use tcl_text::list::write_list;
