@@ -1,4 +1,5 @@
-//! Expressions that are kept, evaluated step by step.
+//! Expressions that are kept, evaluated step by step, and their operators and functions on values.
+//! Those of numbers that are at hand are computed without a general evaluation.
 #![tactic(auto)]
 
 pub mod apply;

@@ -1,4 +1,5 @@
-//! The list commands as functions of their words.
+//! Lists: the list commands as functions of their words, searching and sorting, texts split and
+//! joined, and changes inside nested lists and dicts.
 #![tactic(auto)]
 
 pub mod building;
