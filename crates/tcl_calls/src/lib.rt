@@ -1,5 +1,6 @@
 //! What calls of commands are put together from: the words of a command, the command that its first
-//! word names, and the frame of a procedure.
+//! word names, the frame of a procedure, and what interpreters ask of one another that evaluates
+//! nothing.
 #![tactic(auto)]
 
 pub mod asking;

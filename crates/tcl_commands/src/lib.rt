@@ -1,5 +1,5 @@
-//! The commands that run nothing inside, call nobody and count no step, by what each is called: each
-//! is a function of its words and of the interpreter where it is called.
+//! The commands that run nothing inside, call nobody and count no step, by what each is called:
+//! each is a function of its words and of the interpreter where it is called.
 #![tactic(auto)]
 
 pub mod answers;

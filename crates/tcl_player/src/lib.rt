@@ -1,4 +1,5 @@
-//! The player: an outside that plays a list of moves to a tree by itself.
+//! The player: an outside that plays a list of moves to a tree by itself; and the printed form of
+//! records and of replays, a line for each crossing.
 #![tactic(auto)]
 
 mod answers;

@@ -1,4 +1,6 @@
-//! Trees of interpreters, served over lines of JSON on any reader and writer.
+//! Trees of interpreters, served over lines of JSON on any reader and writer: the protocol, the
+//! server, and its client as functions of an embedder, by which a script's call of the client is a
+//! line to it.
 #![tactic(auto)]
 
 mod acting;
