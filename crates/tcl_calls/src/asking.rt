@@ -1,4 +1,6 @@
 //! Asking an interpreter, wherever it is in the tree.
+#![tactic(auto, using(tcl_run::proofs::Losing::losing))]
+
 ghost use Rattle.std.specs.Prelude.{◌≡◌, ◌++◌, IfOk, IfErr, Ok};
 ghost use Rattle.tcl_core.specs.Paths.{Path};
 ghost use Rattle.tcl_language.specs.Interpreters as interpreters;

@@ -1,4 +1,6 @@
 //! The errors of asking interpreters.
+#![tactic(auto, using(tcl_run::proofs::Losing::losing))]
+
 ghost use Rattle.std.specs.Prelude.{◌≡◌};
 ghost use Rattle.tcl_core.specs.Endings.Reply.{Completed};
 ghost use Rattle.tcl_language.specs.Interpreters as interpreters;

@@ -1,4 +1,6 @@
 //! What commands that ask interpreters look for before they ask.
+#![tactic(auto, using(tcl_run::proofs::Losing::losing))]
+
 ghost use Rattle.tcl_core.specs.Paths.{Path};
 ghost use Rattle.tcl_core.specs.Programs.Act.{Look};
 ghost use Rattle.tcl_core.specs.Programs.Prog.{act};

@@ -1,4 +1,6 @@
 //! The names of commands.
+#![tactic(auto, using(tcl_run::proofs::Losing::losing))]
+
 ghost use Rattle.std.specs.Prelude.{◌≡◌, IfOk, IfErr, Some, None, is_some};
 ghost use Rattle.std.specs.Option.{option_copied};
 ghost use Rattle.tcl_core.specs.Endings.Reply.{Completed};

@@ -1,4 +1,6 @@
 //! What an interpreter does where it is asked for something that evaluates nothing.
+#![tactic(auto, using(tcl_run::proofs::Losing::losing))]
+
 ghost use Rattle.std.specs.Prelude.{◌≡◌, ◌∷◌, [], IfOk, Some};
 ghost use Rattle.tcl_core.specs.Endings.Reply.{Completed};
 ghost use Rattle.tcl_core.specs.Entries.Entry.{Create};
