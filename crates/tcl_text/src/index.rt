@@ -127,8 +127,8 @@ fn is_end(text: &[u8]) -> bool
     text == b"end".as_slice()
 }
 
-/// The place of a number.
-fn place(number: i64) -> Index
+/// Where the index that is a number points.
+pub fn place(number: i64) -> Index
     ensures { result ≡ place number }
 {
     if number < 0 {

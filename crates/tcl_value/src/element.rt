@@ -192,6 +192,17 @@ impl Element {
         }
     }
 
+    /// The same, in less time where it is kept as a text.
+    pub(crate) fn is_str(&self, text: &str) -> bool
+        requires { IsElement self.now }
+        ensures { IsTrue result ↔ (text.now ≡ element_text self.now) }
+    {
+        match self {
+            Element::Text(own) => text == own.as_str(),
+            _ => self.is_text(text.as_bytes()),
+        }
+    }
+
     /// Whether its text is that of a number. This takes no memory.
     fn is_number(&self, n: i64) -> bool
         requires { IsElement self.now }

@@ -149,6 +149,14 @@ impl List {
         Value::from_element(self.items.get(index))
     }
 
+    /// Whether the element at a place is this text, however it is kept. This takes no memory.
+    pub fn is_at(&self, index: usize, text: &str) -> bool
+        requires { index < length self.now }
+        ensures { IsTrue result ↔ (slice_index_or self.now index [] ≡ text.now) }
+    {
+        self.items.get(index).is_str(text)
+    }
+
     /// Adds an element at the end: in place where the list isn't shared.
     ///
     /// # Errors

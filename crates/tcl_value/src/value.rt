@@ -1,5 +1,6 @@
 //! Values, each of which is seen as its text.
-ghost use Rattle.std.specs.Prelude.{◌≡◌, ◌≤◌, ◌<◌, ◌++◌, ◌↔◌, [], length, Ok, IfOk, OnOk, OnErr};
+ghost use Rattle.std.specs.Prelude.{◌≡◌, ◌≤◌, ◌<◌, ◌++◌, ◌∷◌, ◌↔◌, [], length, Ok, IfOk};
+ghost use Rattle.std.specs.Prelude.{OnOk, OnErr};
 ghost use Rattle.std.specs.Prelude.{IsErrOf, IfErr, MatchResult, IfSome, Some, false, IsTrue};
 ghost use Rattle.std.specs.Fmt.{signed_decimal};
 ghost use Rattle.std.specs.String.{string_bytes};
@@ -368,6 +369,20 @@ impl Value {
         ensures { IsTrue result ↔ (self.now ≡ signed_decimal n) }
     {
         self.is_text(Buffer::new().format(n).as_bytes())
+    }
+
+    /// The number that it is kept as, where it is kept as one: the text is then the number's own,
+    /// which reads as that number in either style, and as a list whose only element it is. This
+    /// takes no memory.
+    pub fn number(&self) -> Option<i64>
+        ensures text { IfSome result (λ n. self.now ≡ signed_decimal n) }
+        ensures integer { IfSome result (λ n. (style : Integers) → int_of style self.now ≡ Ok n) }
+        ensures list { IfSome result (λ _. list_of self.now ≡ Ok (self.now ∷ [])) }
+    {
+        match &self.form {
+            Form::Number(n) => Some(*n),
+            Form::Empty | Form::Text(_) | Form::List(_) | Form::Dict(_) => None,
+        }
     }
 
     /// The integer that its text reads as, in a style. This takes no memory.
