@@ -20,7 +20,7 @@ use tcl_tree::tree::{Place, Tree};
 use tcl_value::value::Value;
 
 /// The name, where no two colons stand side by side in it.
-fn plain(name: Text) -> Option<Text>
+pub(crate) fn plain(name: Text) -> Option<Text>
     ensures { result ≡ without_colons name }
 {
     if with_colons(name.as_str()) {

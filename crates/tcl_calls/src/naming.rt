@@ -7,29 +7,20 @@ ghost use Rattle.tcl_core.specs.Endings.Reply.{Completed};
 ghost use Rattle.tcl_core.specs.Paths.{Path};
 ghost use Rattle.tcl_core.specs.Trees as core;
 ghost use Rattle.tcl_language.specs.Faults as faults;
-ghost use Rattle.tcl_language.specs.Naming.{command_name, without_colons};
+ghost use Rattle.tcl_language.specs.Naming.{command_name};
 ghost use Rattle.tcl_run.specs.Ends.{Interrupts, failing};
 ghost use Rattle.tcl_tree.specs.Changes.{is_child};
 ghost use Rattle.tcl_tree.specs.Own.{Own, command_in, hidden_in};
 ghost use Rattle.tcl_tree.specs.TreeOf.{tree_of, Names};
 
+use crate::lookup::plain;
 use std::alloc::{AllocError, Global};
-use tcl_frames::name::{after_leading, with_colons};
+use tcl_frames::name::after_leading;
 use tcl_run::failure::bad_name;
 use tcl_run::interruption::Interruption;
 use tcl_text::text::Text;
 use tcl_tree::command::Command;
 use tcl_tree::tree::{Place, Tree};
-
-/// The name, where no two colons stand side by side in it.
-fn plain(name: Text) -> Option<Text>
-    ensures { result ≡ without_colons name }
-{
-    if with_colons(name.as_str()) {
-        return None;
-    }
-    Some(name)
-}
 
 /// The name by which a command is kept that is called so, if one can be: two leading colons name
 /// the global level, which is the only one.

@@ -46,6 +46,9 @@ abbrev pub error_of_list : ListError → ApplyError
 error_of_list list_error.Memory = Memory
 error_of_list (list_error.Fault f) = Fault (fault.List f)
 
+abbrev pub fault_of_arithmetic : ArithmeticFault → OperatorFault
+fault_of_arithmetic f = fault.Arithmetic f
+
 -- What a function returned, seen by a view, is what the definition gives, unless memory ran out.
 abbrev pub Refuses : {Y : Type 0} → ApplyError → Result Y OperatorFault → Type 0
 Refuses Memory given = Unit {0}

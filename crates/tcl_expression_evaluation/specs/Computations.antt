@@ -18,7 +18,8 @@ use Rattle.tcl_expr.specs.Grammar.{takes_one}
 use Rattle.tcl_expression_evaluation.specs.declared.fault.OperatorFault.{OperatorFault}
 use Rattle.tcl_expression_evaluation.specs.declared.fault.OperatorFault.TheVariants as fault
 use Rattle.tcl_expression_evaluation.specs.declared.fault.Operator.TheVariants.{Function as Called}
-use Rattle.tcl_expression_evaluation.specs.Apply.{Outcome, truth, answer, apply_unary, apply_binary, apply_func}
+use Rattle.tcl_expression_evaluation.specs.Apply.{Outcome, truth, answer, apply_unary, apply_binary}
+use Rattle.tcl_expression_evaluation.specs.Apply.{apply_func}
 use Rattle.tcl_expr.specs.Code.{function_of}
 
 -- A value; a refusal; or a part to be substituted, and what is computed with its value. Who

@@ -2,13 +2,19 @@
 use Rattle.tcl_expr.specs.declared.operator.BinaryOperator.{BinaryOperator}
 use Rattle.tcl_expr.specs.declared.operator.BinaryOperator.TheVariants as operator
 use Rattle.tcl_expression_evaluation.specs.declared.kind.Kind.{Kind}
-use Rattle.tcl_expression_evaluation.specs.declared.kind.Kind.TheVariants.{Arithmetic, Comparison, SameText}
-use Rattle.tcl_expression_evaluation.specs.declared.kind.Kind.TheVariants.{OtherText, Within, Without, And, Or}
-use Rattle.tcl_expression_evaluation.specs.declared.kind.Arithmetic.TheVariants.{Power, Multiply, Divide}
-use Rattle.tcl_expression_evaluation.specs.declared.kind.Arithmetic.TheVariants.{Remainder, Add, Subtract}
-use Rattle.tcl_expression_evaluation.specs.declared.kind.Arithmetic.TheVariants.{ShiftLeft, ShiftRight, BitAnd}
+use Rattle.tcl_expression_evaluation.specs.declared.kind.Kind.TheVariants.{Arithmetic, Comparison}
+use Rattle.tcl_expression_evaluation.specs.declared.kind.Kind.TheVariants.{SameText}
+use Rattle.tcl_expression_evaluation.specs.declared.kind.Kind.TheVariants.{OtherText, Within}
+use Rattle.tcl_expression_evaluation.specs.declared.kind.Kind.TheVariants.{Without, And, Or}
+use Rattle.tcl_expression_evaluation.specs.declared.kind.Arithmetic.TheVariants.{Power, Multiply}
+use Rattle.tcl_expression_evaluation.specs.declared.kind.Arithmetic.TheVariants.{Divide}
+use Rattle.tcl_expression_evaluation.specs.declared.kind.Arithmetic.TheVariants.{Remainder, Add}
+use Rattle.tcl_expression_evaluation.specs.declared.kind.Arithmetic.TheVariants.{Subtract}
+use Rattle.tcl_expression_evaluation.specs.declared.kind.Arithmetic.TheVariants.{ShiftLeft}
+use Rattle.tcl_expression_evaluation.specs.declared.kind.Arithmetic.TheVariants.{ShiftRight, BitAnd}
 use Rattle.tcl_expression_evaluation.specs.declared.kind.Arithmetic.TheVariants.{BitXor, BitOr}
-use Rattle.tcl_expression_evaluation.specs.declared.kind.Comparison.TheVariants.{Less, Greater, AtMost, AtLeast}
+use Rattle.tcl_expression_evaluation.specs.declared.kind.Comparison.TheVariants.{Less, Greater}
+use Rattle.tcl_expression_evaluation.specs.declared.kind.Comparison.TheVariants.{AtMost, AtLeast}
 use Rattle.tcl_expression_evaluation.specs.declared.kind.Comparison.TheVariants.{Equal, Unequal}
 
 abbrev pub kind_of : BinaryOperator → Kind

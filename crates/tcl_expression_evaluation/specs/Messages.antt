@@ -13,8 +13,10 @@ use Rattle.tcl_text.specs.Messages as messages
 use Rattle.tcl_expression_evaluation.specs.declared.fault.Operator.{Operator}
 use Rattle.tcl_expression_evaluation.specs.declared.fault.Operator.TheVariants as operators
 use Rattle.tcl_expression_evaluation.specs.declared.fault.OperatorFault.{OperatorFault}
-use Rattle.tcl_expression_evaluation.specs.declared.fault.OperatorFault.TheVariants.{TooLarge, NotBoolean}
-use Rattle.tcl_expression_evaluation.specs.declared.fault.OperatorFault.TheVariants.{NotNumeric, Arithmetic}
+use Rattle.tcl_expression_evaluation.specs.declared.fault.OperatorFault.TheVariants.{TooLarge}
+use Rattle.tcl_expression_evaluation.specs.declared.fault.OperatorFault.TheVariants.{NotBoolean}
+use Rattle.tcl_expression_evaluation.specs.declared.fault.OperatorFault.TheVariants.{NotNumeric}
+use Rattle.tcl_expression_evaluation.specs.declared.fault.OperatorFault.TheVariants.{Arithmetic}
 use Rattle.tcl_expression_evaluation.specs.declared.fault.OperatorFault.TheVariants.{List as NoList}
 
 abbrev pub unary_symbol : UnaryOperator → List ℕ

@@ -11,9 +11,12 @@ use Rattle.tcl_arithmetic.specs.Digits.{digit}
 use Rattle.tcl_arithmetic.specs.Powers.{power}
 use Rattle.tcl_text.specs.Numbers.{fits_64}
 use Rattle.tcl_expression_evaluation.specs.declared.kind.Arithmetic.{Arithmetic}
-use Rattle.tcl_expression_evaluation.specs.declared.kind.Arithmetic.TheVariants.{Power, Multiply, Divide}
-use Rattle.tcl_expression_evaluation.specs.declared.kind.Arithmetic.TheVariants.{Remainder, Add, Subtract}
-use Rattle.tcl_expression_evaluation.specs.declared.kind.Arithmetic.TheVariants.{ShiftLeft, ShiftRight, BitAnd}
+use Rattle.tcl_expression_evaluation.specs.declared.kind.Arithmetic.TheVariants.{Power, Multiply}
+use Rattle.tcl_expression_evaluation.specs.declared.kind.Arithmetic.TheVariants.{Divide}
+use Rattle.tcl_expression_evaluation.specs.declared.kind.Arithmetic.TheVariants.{Remainder, Add}
+use Rattle.tcl_expression_evaluation.specs.declared.kind.Arithmetic.TheVariants.{Subtract}
+use Rattle.tcl_expression_evaluation.specs.declared.kind.Arithmetic.TheVariants.{ShiftLeft}
+use Rattle.tcl_expression_evaluation.specs.declared.kind.Arithmetic.TheVariants.{ShiftRight, BitAnd}
 use Rattle.tcl_expression_evaluation.specs.declared.kind.Arithmetic.TheVariants.{BitXor, BitOr}
 
 -- ## The one pair of a quotient and a remainder

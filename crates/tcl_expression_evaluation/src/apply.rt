@@ -4,10 +4,14 @@ ghost use Rattle.std.specs.Prelude.{IfErr};
 ghost use Rattle.std.specs.Ordering.{nat_cmp};
 ghost use Rattle.std.specs.Str.{bytes_eq};
 ghost use Rattle.std.specs.Cmp.Lexicographic.{slice_cmp};
-ghost use Rattle.tcl_expression_evaluation.specs.WholeNumbers.{complement_of, computed, in_range, checked};
-ghost use Rattle.tcl_expression_evaluation.specs.Apply.{Gives, integer_read, arithmetic_read, integer, truth};
-ghost use Rattle.tcl_expression_evaluation.specs.Apply.{arithmetic, order_read, order, holds, answer, is_among};
-ghost use Rattle.tcl_expression_evaluation.specs.Apply.{among, and_then, or_else, apply_binary, apply_unary};
+ghost use Rattle.tcl_expression_evaluation.specs.WholeNumbers.{complement_of, computed, in_range};
+ghost use Rattle.tcl_expression_evaluation.specs.WholeNumbers.{checked};
+ghost use Rattle.tcl_expression_evaluation.specs.Apply.{Gives, integer_read, arithmetic_read};
+ghost use Rattle.tcl_expression_evaluation.specs.Apply.{integer, truth};
+ghost use Rattle.tcl_expression_evaluation.specs.Apply.{arithmetic, order_read, order, holds};
+ghost use Rattle.tcl_expression_evaluation.specs.Apply.{answer, is_among};
+ghost use Rattle.tcl_expression_evaluation.specs.Apply.{among, and_then, or_else, apply_binary};
+ghost use Rattle.tcl_expression_evaluation.specs.Apply.{apply_unary};
 ghost use Rattle.tcl_expression_evaluation.specs.Apply.{chosen, choose, Takes, apply_func};
 ghost use Rattle.tcl_value.specs.Limits.{Bytes};
 

@@ -2,7 +2,8 @@
 ghost use Rattle.std.specs.Prelude.{◌≡◌, ◌∷◌, ◌++◌, ◌<◌, ◌≤◌, ◌^◌, ◌-◌, List, [], drop, length, Ok};
 ghost use Rattle.std.specs.Prelude.{Err, OnOk};
 ghost use Rattle.tcl_text.specs.declared.integer.Integers.{Integers as Style};
-ghost use Rattle.tcl_expression_evaluation.specs.Apply.{Gives, truth, answer, apply_unary, apply_binary};
+ghost use Rattle.tcl_expression_evaluation.specs.Apply.{Gives, truth, answer, apply_unary};
+ghost use Rattle.tcl_expression_evaluation.specs.Apply.{apply_binary};
 ghost use Rattle.tcl_value.specs.Limits.{Bytes};
 ghost use Rattle.tcl_expression_evaluation.specs.Computations.{takes, call};
 ghost use Rattle.tcl_expression_evaluation.specs.Steps.{top, below, last_of, without, passed};

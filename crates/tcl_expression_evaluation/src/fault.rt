@@ -1,7 +1,9 @@
 //! Why an operator or a function has no result.
 ghost use Rattle.std.specs.Prelude.{◌≡◌, ◌++◌, IfOk, codes};
-ghost use Rattle.tcl_expression_evaluation.specs.Messages.{unary_symbol, binary_symbol, function_symbol};
-ghost use Rattle.tcl_expression_evaluation.specs.Messages.{symbol_of, arithmetic_message, message_of};
+ghost use Rattle.tcl_expression_evaluation.specs.Messages.{unary_symbol, binary_symbol};
+ghost use Rattle.tcl_expression_evaluation.specs.Messages.{function_symbol};
+ghost use Rattle.tcl_expression_evaluation.specs.Messages.{symbol_of, arithmetic_message};
+ghost use Rattle.tcl_expression_evaluation.specs.Messages.{message_of};
 ghost use Rattle.tcl_expression_evaluation.specs.declared.fault.ApplyError.TheVariants.{Memory};
 
 use std::alloc::{AllocError, Global};
@@ -98,9 +100,9 @@ impl From<ListError> for ApplyError {
 
 impl From<ArithmeticFault> for OperatorFault {
     ghost use Rattle.std.specs.Prelude.{◌≡◌};
-    ghost use Rattle.tcl_expression_evaluation.specs.declared.fault.OperatorFault.TheVariants.{Arithmetic};
+    ghost use Rattle.tcl_expression_evaluation.specs.Apply.{fault_of_arithmetic};
 
-    ghost from_gives = { λ fault e. e ≡ Arithmetic fault };
+    ghost from_gives = { λ fault e. e ≡ fault_of_arithmetic fault };
 
     fn from(fault: ArithmeticFault) -> OperatorFault {
         OperatorFault::Arithmetic(fault)

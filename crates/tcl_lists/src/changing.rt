@@ -5,7 +5,7 @@ ghost use Rattle.tcl_lists.specs.Nested.{element_changed};
 ghost use Rattle.tcl_lists.specs.Lists.{Texts, Changes, first_middle_last};
 ghost use Rattle.tcl_lists.specs.Changing.{nested_outcome, path_or, path_of, lset_of};
 
-use crate::indexes::indexes_of;
+use crate::indexes::{are_numbers, indexes_of};
 use crate::nested::set_element;
 use crate::reading::{first_middle_last, own_list};
 use crate::refusing::nested_refusal;
@@ -92,7 +92,10 @@ pub fn lset(
 ) -> Result<(), Refusal>
     ensures { Changes result old.old old.new (lset_of style old.old words.now new.now) }
 {
-    let path = path_of(alloc, old, words)?;
     let own = new.clone()?;
+    if are_numbers(words) {
+        return set_at_path(alloc, style, old, words, own);
+    }
+    let path = path_of(alloc, old, words)?;
     set_at_path(alloc, style, old, &path, own)
 }

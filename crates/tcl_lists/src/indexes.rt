@@ -1,11 +1,12 @@
 //! The command that reads by indexes.
-ghost use Rattle.std.specs.Prelude.{◌≡◌, ◌++◌, ◌∷◌, [], ℕ, List as Lists, OnOk, IfOk};
+ghost use Rattle.std.specs.Prelude.{◌≡◌, ◌++◌, ◌∷◌, [], ℕ, List as Lists, Ok, OnOk, IfOk};
+ghost use Rattle.std.specs.Bool.{OnTrue};
 ghost use Rattle.tcl_words.specs.Outcomes.{Gives, Refuses, next};
 ghost use Rattle.tcl_words.specs.Words.{list_word};
 ghost use Rattle.tcl_lists.specs.Lists.{element, at_index, at_indexes, indexes_of, read_at};
 ghost use Rattle.tcl_lists.specs.Lists.{Texts, at_words, lindex_of};
 
-use crate::reading::{first_and_rest, index_word, list_word, own_list};
+use crate::reading::{first_and_rest, index_word, is_number, list_word, own_list};
 use std::alloc::{AllocError, Global};
 use tcl_text::index::Index;
 use tcl_text::integer::Integers;
@@ -71,6 +72,17 @@ pub fn elements_of(alloc: Global, list: &List) -> Result<Vec<Value>, AllocError>
     let mut made = Vec::with_capacity(alloc, list.len())?;
     push_all(&mut made, list)?;
     Ok(made)
+}
+
+/// Whether the words are a number or two, as they are kept: they are their indexes then.
+pub(crate) fn are_numbers(words: &[Value]) -> bool
+    ensures { OnTrue result (indexes_of words.now ≡ Ok words.now) }
+{
+    match words {
+        [index] => is_number(index),
+        [first, second] => is_number(first) && is_number(second),
+        _ => false,
+    }
 }
 
 /// The indexes of words each of which is a list of them.
@@ -149,6 +161,9 @@ fn at_words(
 ) -> Result<Value, Refusal>
     ensures { Gives (λ value. value) result (at_words style value.now words.now) }
 {
+    if are_numbers(words) {
+        return at_indexes(alloc, style, value.clone()?, words);
+    }
     match words {
         [] => Ok(value.clone()?),
         [word] => at_word(alloc, style, value, word),

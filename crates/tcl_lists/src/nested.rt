@@ -9,7 +9,8 @@ ghost use Rattle.tcl_value.specs.Dicts.{put, without, value_of, dict_of};
 ghost use Rattle.tcl_value.specs.Reading.{list_of};
 ghost use Rattle.tcl_value.specs.Changes.{AtList};
 ghost use Rattle.tcl_value.specs.DictChanges.{AtDict};
-ghost use Rattle.tcl_lists.specs.Nested.{next, list_in, dict_in, place_within, place_or, place_in};
+ghost use Rattle.tcl_lists.specs.Nested.{next, list_in, dict_in, place_within, place_found};
+ghost use Rattle.tcl_lists.specs.Nested.{place_or, place_in};
 ghost use Rattle.tcl_lists.specs.Nested.{element_at, with_element, element_changed};
 ghost use Rattle.tcl_lists.specs.Nested.{value_or_empty, value_changed, known, key_removed};
 ghost use Rattle.tcl_lists.specs.Nested.{Refuses, RefusesText};
@@ -18,7 +19,7 @@ ghost use Rattle.tcl_lists.specs.Steps.{Leads};
 use crate::fault::{NestedError, NestedFault};
 use crate::step::{Step, with_innermost};
 use std::alloc::{AllocError, Global};
-use tcl_text::index::{Index, read_index};
+use tcl_text::index::{Index, place, read_index};
 use tcl_text::integer::Integers;
 use tcl_text::limit::MOST_BYTES;
 use tcl_value::dict::Dict;
@@ -252,7 +253,16 @@ fn place_within(place: Index, count: usize) -> Option<usize>
     }
 }
 
-/// The place that an index names among so many elements, or behind the last.
+/// The place to which an index points, or 243 where it is none of those.
+fn place_or_fault(place: Index, count: usize) -> Result<usize, NestedError>
+    ensures found { IfOk result (λ n. place_found (place_within count place) ≡ Ok n) }
+    ensures refused { IfErr result (λ e. Refuses e (place_found (place_within count place))) }
+{
+    place_within(place, count).ok_or(NestedError::Fault(NestedFault::NoPlace))
+}
+
+/// The place that an index names among so many elements, or behind the last. This makes no text of
+/// a number.
 fn place_among(
     alloc: Global,
     style: Integers,
@@ -269,9 +279,12 @@ fn place_among(
     if count > MOST_BYTES {
         return Err(NestedError::Memory);
     }
+    if let Some(number) = index.number() {
+        return place_or_fault(place(number), count);
+    }
     let text = index.text(alloc)?;
     match read_index(text.as_str(), style, last_place(count)) {
-        Ok(place) => place_within(place, count).ok_or(NestedError::Fault(NestedFault::NoPlace)),
+        Ok(place) => place_or_fault(place, count),
         Err(_) => Err(NestedError::Fault(NestedFault::BadIndex(text))),
     }
 }

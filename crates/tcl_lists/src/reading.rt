@@ -1,5 +1,9 @@
 //! How the words of list commands are read.
-ghost use Rattle.std.specs.Prelude.{◌≡◌};
+ghost use Rattle.std.specs.Prelude.{◌≡◌, ◌∷◌, [], Ok, Err, nat_le, if◌then◌else◌};
+ghost use Rattle.std.specs.Bool.{OnTrue};
+ghost use Rattle.tcl_text.specs.Indexes.{place};
+ghost use Rattle.tcl_value.specs.Reading.{list_of};
+ghost use Rattle.tcl_words.specs.Faults.{too_long};
 ghost use Rattle.tcl_words.specs.Outcomes.{Gives};
 ghost use Rattle.tcl_words.specs.Arguments.{one_word, three_words, one_or_two_words};
 ghost use Rattle.tcl_words.specs.Arguments.{two_or_three_words};
@@ -10,13 +14,14 @@ ghost use Rattle.tcl_lists.specs.Lists.{first_middle_last};
 
 use crate::refusing::no_list;
 use std::alloc::Global;
-use tcl_text::index::Index;
+use tcl_text::index::{Index, place};
 use tcl_text::integer::Integers;
+use tcl_text::limit::MOST_BYTES;
 use tcl_text::list::ListError;
 use tcl_value::list::List;
 use tcl_value::value::Value;
 use tcl_words::reading;
-use tcl_words::refusal::{Refusal, wrong_arguments};
+use tcl_words::refusal::{Refusal, too_long, wrong_arguments};
 
 /// The only word.
 ///
@@ -223,8 +228,26 @@ pub fn own_integer(alloc: Global, style: Integers, own: &mut Value) -> Result<i6
     }
 }
 
+/// Whether a word is kept as a number, and so is a list whose only element it is.
+pub(crate) fn is_number(word: &Value) -> bool
+    ensures { OnTrue result (list_of word.now ≡ Ok (word.now ∷ [])) }
+{
+    word.number().is_some()
+}
+
+/// The place to which a number points in a list of so many elements.
+fn number_place(alloc: Global, count: usize, number: i64) -> Result<Index, Refusal>
+    ensures { Gives (λ place. place) result
+        (if nat_le count 16777216 then Ok (place number) else Err too_long) }
+{
+    if count > MOST_BYTES {
+        return Err(too_long(alloc));
+    }
+    Ok(place(number))
+}
+
 /// The place to which an index word points in a list of so many elements, of which `end` is the
-/// last.
+/// last. This makes no text of a number.
 ///
 /// # Errors
 /// 114 where it is no index text, 122 where no value has so many elements; want of memory.
@@ -236,6 +259,9 @@ pub fn index_word(
 ) -> Result<Index, Refusal>
     ensures { Gives (λ place. place) result (index_word style count word.now) }
 {
+    if let Some(number) = word.number() {
+        return number_place(alloc, count, number);
+    }
     let text = word.text(alloc)?;
     reading::index_word(alloc, style, count, text.as_str())
 }

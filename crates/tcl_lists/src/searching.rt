@@ -1,5 +1,6 @@
 //! The command that searches a list.
-ghost use Rattle.std.specs.Prelude.{◌≡◌, ◌++◌, ◌∷◌, [], pos, map, Ok, OnOk, IfOk, IfErr};
+ghost use Rattle.std.specs.Prelude.{◌≡◌, ◌<◌, ◌++◌, ◌∷◌, [], pos, map, length, Ok, OnOk, IfOk};
+ghost use Rattle.std.specs.Prelude.{IfErr, slice_index_or};
 ghost use Rattle.std.specs.Fmt.{signed_decimal};
 ghost use Rattle.tcl_words.specs.Outcomes.{Gives, Refuses};
 ghost use Rattle.tcl_lists.specs.Lists.{Texts, list_value};
@@ -16,23 +17,38 @@ use tcl_value::list::List;
 use tcl_value::value::Value;
 use tcl_words::refusal::Refusal;
 
-/// Whether a value is the pattern, or matches it.
-fn is_like(alloc: Global, exact: bool, pattern: &Value, value: &Value) -> Result<bool, AllocError>
-    ensures { IfOk result (λ like. like ≡ is_like exact pattern.now value.now) }
+/// Whether the element at a place is the pattern, or matches it.
+fn is_like(
+    alloc: Global,
+    exact: bool,
+    pattern: &str,
+    list: &List,
+    index: usize,
+) -> Result<bool, AllocError>
+    requires { index < length list.now }
+    ensures { IfOk result
+        (λ like. like ≡ is_like exact pattern.now (slice_index_or list.now index [])) }
 {
     if exact {
-        return Ok(value.same(pattern));
+        return Ok(list.is_at(index, pattern));
     }
-    let pattern = pattern.text(alloc)?;
-    let text = value.text(alloc)?;
-    Ok(matches(pattern.as_str(), text.as_str(), false))
+    let text = list.get(index)?.text(alloc)?;
+    Ok(matches(pattern, text.as_str(), false))
 }
 
-/// Whether a search takes an element.
-fn takes(alloc: Global, search: Search, pattern: &Value, value: &Value) -> Result<bool, AllocError>
-    ensures { IfOk result (λ taken. taken ≡ takes search pattern.now value.now) }
+/// Whether a search takes the element at a place.
+fn takes(
+    alloc: Global,
+    search: Search,
+    pattern: &str,
+    list: &List,
+    index: usize,
+) -> Result<bool, AllocError>
+    requires { index < length list.now }
+    ensures { IfOk result
+        (λ taken. taken ≡ takes search pattern.now (slice_index_or list.now index [])) }
 {
-    let like = is_like(alloc, search.exact, pattern, value)?;
+    let like = is_like(alloc, search.exact, pattern, list, index)?;
     Ok(if search.negated { !like } else { like })
 }
 
@@ -68,14 +84,13 @@ fn nothing_told(inline: bool) -> Value
 }
 
 /// What is told of the first element that a search takes.
-fn first_told(alloc: Global, search: Search, pattern: &Value, list: &List) -> Result<Value, Refusal>
+fn first_told(alloc: Global, search: Search, pattern: &str, list: &List) -> Result<Value, Refusal>
     ensures { Gives (λ value. value) result
         (Ok (first_told search.inline (taken search pattern.now (placed 0 list.now)))) }
 {
     'elements: for index in 0..list.len() {
-        let value = list.get(index)?;
-        if takes(alloc, search, pattern, &value)? {
-            return found_value(search.inline, index, value);
+        if takes(alloc, search, pattern, list, index)? {
+            return found_value(search.inline, index, list.get(index)?);
         }
     }
     Ok(nothing_told(search.inline))
@@ -101,15 +116,14 @@ fn push_told(
 }
 
 /// The list of what is told of all elements that a search takes.
-fn all_told(alloc: Global, search: Search, pattern: &Value, list: &List) -> Result<Value, Refusal>
+fn all_told(alloc: Global, search: Search, pattern: &str, list: &List) -> Result<Value, Refusal>
     ensures { Gives (λ value. value) result
         (list_value (map (told search.inline) (taken search pattern.now (placed 0 list.now)))) }
 {
     let mut made = List::new(alloc)?;
     'elements: for index in 0..list.len() {
-        let value = list.get(index)?;
-        if takes(alloc, search, pattern, &value)? {
-            push_told(alloc, &mut made, search.inline, index, value)?;
+        if takes(alloc, search, pattern, list, index)? {
+            push_told(alloc, &mut made, search.inline, index, list.get(index)?)?;
         }
     }
     list_value(alloc, made)
@@ -119,10 +133,11 @@ fn all_told(alloc: Global, search: Search, pattern: &Value, list: &List) -> Resu
 fn found(alloc: Global, search: Search, pattern: &Value, list: &List) -> Result<Value, Refusal>
     ensures { Gives (λ value. value) result (found search pattern.now list.now) }
 {
+    let pattern = pattern.text(alloc)?;
     if search.all {
-        all_told(alloc, search, pattern, list)
+        all_told(alloc, search, pattern.as_str(), list)
     } else {
-        first_told(alloc, search, pattern, list)
+        first_told(alloc, search, pattern.as_str(), list)
     }
 }
 
