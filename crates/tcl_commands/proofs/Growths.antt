@@ -13,19 +13,9 @@ use Rattle.tcl_language.specs.Faults.{frame_message}
 use Rattle.tcl_language.specs.Instructions as long
 use Rattle.tcl_language.specs.Instructions.{Program, either, fits, look, or_fails, too_long, with_chain}
 use Rattle.tcl_language.specs.Variables as variables
-use Rattle.tcl_lists.specs.Lists.{lappend_of, list_value}
-use Rattle.tcl_lists.specs.Refusing.{RefusesChange}
+use Rattle.tcl_lists.specs.Lists.{lappend_of}
 use Rattle.tcl_text.specs.declared.integer.Integers.{Integers}
-use Rattle.tcl_text.specs.declared.list.ListFault.{ListFault}
-use Rattle.tcl_value.specs.Changes as list_changes
-use Rattle.tcl_value.specs.Changes.{AtList}
-use Rattle.tcl_value.specs.Limits.{IsPast, IsWithin}
-use Rattle.tcl_value.specs.Writing.{write}
-use Rattle.tcl_value.specs.declared.value.ChangeError.{ChangeError}
-use Rattle.tcl_value.specs.declared.value.ChangeError.TheVariants.{Memory, TooLong, List as NoList, NoElement}
-use Rattle.tcl_words.specs.Outcomes.{Refuses, next}
-use Rattle.tcl_words.specs.Words.{list_or}
-use Rattle.tcl_words.specs.declared.refusal.Refusal.{Refusal}
+use Rattle.tcl_words.specs.Outcomes.{next}
 use Rattle.tcl_run.specs.Plain.{Does, Acts}
 use Rattle.tcl_run.specs.declared.interruption.Interruption.{Interruption}
 use Rattle.tcl_run.proofs.Endings.{Interrupts-more}
@@ -39,7 +29,6 @@ use Rattle.tcl_tree.specs.declared.tree.Place.{Place as TablePlace}
 use Rattle.tcl_tree.proofs.CoreLemmas.{tree_there}
 use Rattle.tcl_frames.specs.declared.fault.FrameFault.{FrameFault}
 use Rattle.tcl_words.specs.Outcomes.{Outcome}
-use Rattle.tcl_words.proofs.WordLemmas.{limited_past, limited_within}
 use Rattle.tcl_commands.specs.Steps.{EndsAt}
 use Rattle.tcl_commands.proofs.Going.{acts_more}
 use Rattle.tcl_commands.proofs.Same.{set_same}
@@ -144,16 +133,3 @@ grows_lent chain next first name old new grow (Err i) there set grows = Interrup
     (g.0, set_same chain next name old there (ap (after_set chain name) (sym g.1) ∙ set), grown_not chain first name old g.0 grow there g.2, g.3)) grows
 
 -- ## A list that is made longer
-
-pub extend_made : (read : Result (List Text) ListFault) (more : List Text) (new : Text) → AtList read (λ list. (new ≡ write (list ++ more)) × IsWithin (write (list ++ more))) → next (list_or read) (λ l. list_value (l ++ more)) ≡ Ok new
-extend_made (Ok l) more new h = limited_within (write (l ++ more)) h.1 ∙ ap Ok (sym h.0)
-extend_made (Err f) more new h = elim h [ ]
-
-pub extend_refused : (r : Refusal) (why : ChangeError) (read : Result (List Text) ListFault) (more : List Text) → RefusesChange r why → list_changes.Refuses why read (λ list. IsPast (write (list ++ more))) (λ _. ⊥) →
-    Refuses r (next (list_or read) (λ l. list_value (l ++ more)))
-extend_refused r Memory read more h k = h (next (list_or read) (λ l. list_value (l ++ more)))
-extend_refused r TooLong (Ok l) more h k = subst (Refuses {X = List ℕ} r) (sym (limited_past (write (l ++ more)) k)) h
-extend_refused r TooLong (Err f) more h k = absurd k
-extend_refused r (NoList f) read more h k = subst (λ (t : Result (List Text) ListFault). Refuses r (next (list_or t) (λ l. list_value (l ++ more)))) (sym k) h
-extend_refused r NoElement (Ok l) more h k = absurd k
-extend_refused r NoElement (Err f) more h k = absurd k

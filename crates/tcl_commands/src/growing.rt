@@ -6,7 +6,6 @@ ghost use Rattle.tcl_language.specs.Data as collections;
 ghost use Rattle.tcl_frames.specs.Chain.{read};
 ghost use Rattle.tcl_language.specs.Instructions.{fits, look};
 ghost use Rattle.tcl_language.specs.Variables as variables;
-ghost use Rattle.tcl_lists.specs.Lists.{Changes, lappend_of};
 ghost use Rattle.tcl_run.specs.Plain.{Acts};
 ghost use Rattle.tcl_run.specs.Runs.{IsLevel};
 ghost use Rattle.tcl_run.specs.declared.interruption.Interruption.TheVariants.{Memory};
@@ -20,7 +19,7 @@ use std::alloc::Global;
 use tcl_frames::fault::FrameError;
 use tcl_frames::frames::Frames;
 use tcl_frames::variable_name::VariableName;
-use tcl_lists::refusing::not_changed;
+use tcl_lists::lengthening;
 use tcl_run::failure::{failure, too_long, wrong_args};
 use tcl_run::interruption::Interruption;
 use tcl_run::steps::{frame_failure, read_by_word, variable_name};
@@ -84,21 +83,11 @@ fn append_texts(alloc: Global, value: &mut Value, more: &[Value]) -> Result<Valu
     Ok(value.clone()?)
 }
 
-/// Adds elements to the list of a value: in place where it is kept as a list that isn't shared.
-fn lengthen(alloc: Global, value: &mut Value, more: &[Value]) -> Result<(), Refusal>
-    ensures { Changes result value.old value.new (lappend_of value.old more.now) }
-{
-    match value.extend(alloc, more) {
-        Ok(()) => Ok(()),
-        Err(why) => Err(not_changed(alloc, why)),
-    }
-}
-
 /// Adds elements to the list of a value, and gives what it then is.
 fn append_elements(alloc: Global, value: &mut Value, more: &[Value]) -> Result<Value, Interruption>
     ensures { GrowsTo value.old (lengthened more.now) value.new result }
 {
-    match lengthen(alloc, value, more) {
+    match lengthening::lappend(alloc, value, more) {
         Ok(()) => Ok(value.clone()?),
         Err(Refusal::Fault(message)) => Err(failure(alloc, message)),
         Err(Refusal::Memory) => Err(Interruption::Memory),

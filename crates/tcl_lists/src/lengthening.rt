@@ -5,7 +5,7 @@ ghost use Rattle.tcl_lists.specs.Lists.{list_value, copies, counted_copies, lapp
 ghost use Rattle.tcl_lists.specs.Lists.{Changes};
 
 use crate::building::{list_value, push_words};
-use crate::reading::{first_and_rest, integer_word, list_word};
+use crate::reading::{first_and_rest, integer_word};
 use crate::refusing::not_changed;
 use std::alloc::Global;
 use tcl_text::integer::Integers;
@@ -25,17 +25,20 @@ fn push(alloc: Global, old: &mut Value, word: &Value) -> Result<(), Refusal>
     }
 }
 
-/// The list of a value with words behind its elements.
-fn extended(alloc: Global, old: &Value, words: &[Value]) -> Result<Value, Refusal>
-    ensures { Gives (λ value. value) result (lappend_of old.now words.now) }
+/// The list of a value with words behind its elements: in place where the value is kept as a list
+/// that isn't shared.
+fn extend(alloc: Global, old: &mut Value, words: &[Value]) -> Result<(), Refusal>
+    ensures { Changes result old.old old.new (lappend_of old.old words.now) }
 {
-    let mut made = list_word(alloc, old)?;
-    push_words(alloc, &mut made, words)?;
-    list_value(alloc, made)
+    match old.extend(alloc, words) {
+        Ok(()) => Ok(()),
+        Err(why) => Err(not_changed(alloc, why)),
+    }
 }
 
 /// What `lappend varName ?value ...?` makes of the variable's value: the list with the words behind
-/// its elements. A refusal leaves the value as it was.
+/// its elements. Where the value is kept as a list that nobody shares it is changed in place. A
+/// refusal leaves the value as it was.
 ///
 /// # Errors
 /// 101 to 104 where the value is no list, 122; want of memory.
@@ -44,10 +47,7 @@ pub fn lappend(alloc: Global, old: &mut Value, words: &[Value]) -> Result<(), Re
 {
     match words {
         [word] => push(alloc, old, word),
-        _ => {
-            *old = extended(alloc, old, words)?;
-            Ok(())
-        }
+        _ => extend(alloc, old, words),
     }
 }
 
