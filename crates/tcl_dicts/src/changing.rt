@@ -61,7 +61,7 @@ pub fn set(alloc: Global, old: &mut Value, keys: &[Value], value: &Value) -> Res
     let own = value.clone()?;
     match set_value(alloc, old, keys, own) {
         Ok(()) => {
-            let _within = old.text_len();
+            old.keeps_limit();
             Ok(())
         }
         Err(why) => Err(nested_refusal(alloc, why)),
@@ -92,7 +92,7 @@ pub fn unset(alloc: Global, old: &mut Value, path: &[Value], key: &Value) -> Res
 {
     match remove_key(alloc, old, path, key) {
         Ok(()) => {
-            let _within = old.text_len();
+            old.keeps_limit();
             Ok(())
         }
         Err(why) => Err(nested_refusal(alloc, why)),
@@ -201,7 +201,7 @@ fn appended_in_place(
     };
     let path = [key.clone()?];
     let done = old.append_inside(alloc, &path, more);
-    let _within = old.text_len();
+    old.keeps_limit();
     Ok(done)
 }
 
@@ -257,7 +257,7 @@ fn lengthened_in_place(
 {
     let path = [key.clone()?];
     let done = old.extend_inside(alloc, &path, words);
-    let _within = old.text_len();
+    old.keeps_limit();
     Ok(done)
 }
 

@@ -103,7 +103,7 @@ fn with_texts(alloc: Global, value: Value, words: &[Value]) -> Result<Value, Ref
             return Err(not_made(alloc, why));
         }
     }
-    let _within = made.text_len();
+    made.keeps_limit();
     Ok(made)
 }
 

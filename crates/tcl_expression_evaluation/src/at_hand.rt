@@ -122,7 +122,7 @@ fn value_at_hand<'a>(frames: &'a Frames, leaf: &'a Leaf) -> Option<&'a Value>
         Leaf::Literal(value) => Some(value),
         Leaf::Substituted(operand) => {
             let value = frames.scalar_near(operand.variable()?)?;
-            let _within = value.text_len();
+            value.keeps_limit();
             Some(value)
         }
     }

@@ -66,7 +66,7 @@ fn set_at_path(
 {
     match set_element(alloc, style, old, path, new) {
         Ok(()) => {
-            let _within = old.text_len();
+            old.keeps_limit();
             Ok(())
         }
         Err(why) => Err(nested_refusal(alloc, why)),

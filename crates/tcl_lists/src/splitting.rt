@@ -114,7 +114,7 @@ fn short_text(alloc: Global, word: &Value) -> Result<Text, Refusal>
     ensures text { Gives (λ text. text) result (Ok word.now) }
     ensures within { IfOk result (λ text. length text ≤ 16777216) }
 {
-    let _len = word.text_len();
+    word.keeps_limit();
     Ok(word.text(alloc)?)
 }
 
