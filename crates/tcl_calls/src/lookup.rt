@@ -7,7 +7,7 @@ ghost use Rattle.tcl_language.specs.Naming.{command_name, without_colons};
 ghost use Rattle.tcl_run.specs.Ends.{Gave, itself};
 ghost use Rattle.tcl_tree.specs.Own.{Own};
 ghost use Rattle.tcl_tree.specs.TreeOf.{tree_of, Names};
-ghost use Rattle.tcl_calls.specs.Found.{found, hidden_found};
+ghost use Rattle.tcl_calls.specs.Found.{found, hidden_found, callee_command};
 
 use std::alloc::{AllocError, Global};
 use tcl_frames::name::{after_leading, with_colons};
@@ -74,21 +74,39 @@ pub fn builtin_named(tree: &Tree, place: Place, word: &Value) -> Option<Builtin>
     }
 }
 
+/// A command as a call finds it: a built-in one, of which nothing is shared, or another.
+#[derive(Drop)]
+pub enum Callee {
+    Builtin(Builtin),
+    Other(Command),
+}
+
+/// A command as a call finds it. Where memory is wanting, none.
+fn callee_of(command: &Command) -> Option<Callee>
+    ensures { IfSome result (λ callee. callee_command callee ≡ command.now) }
+{
+    match command {
+        Command::Builtin(builtin) => Some(Callee::Builtin(*builtin)),
+        Command::Procedure(_) | Command::Alias(_) | Command::Child => {
+            Some(Callee::Other(command.clone().ok()?))
+        }
+    }
+}
+
 /// The command that a word names in the interpreter, if it names one. Where memory is wanting,
 /// none.
 #[inline(never)]
-pub fn command_named(tree: &Tree, alloc: Global, place: Place, word: &Value) -> Option<Command>
-    ensures { IfSome result (λ command. (p : Path) (n : core.Node Own) → Names tree.now place p →
-        tree_of tree.now p ≡ Some n → found n word.now ≡ Ok command) }
+pub fn callee_named(tree: &Tree, alloc: Global, place: Place, word: &Value) -> Option<Callee>
+    ensures { IfSome result (λ callee. (p : Path) (n : core.Node Own) → Names tree.now place p →
+        tree_of tree.now p ≡ Some n → found n word.now ≡ Ok (callee_command callee)) }
 {
     if let Some(command) = standing(tree, place, word) {
-        return command.clone().ok();
+        return callee_of(command);
     }
     let Ok(Some(name)) = kept_name(alloc, word) else {
         return None;
     };
-    let command = tree.command_near(place, &name)?;
-    command.clone().ok()
+    callee_of(tree.command_near(place, &name)?)
 }
 
 /// The command that a word names in the interpreter, in less time where it stands at the place that

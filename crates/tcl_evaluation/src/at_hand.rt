@@ -12,7 +12,7 @@ use crate::commands::{call_builtin, call_command};
 use crate::hands::{is_plain, words_at_hand};
 use crate::sums::count_sum;
 use std::alloc::Global;
-use tcl_calls::lookup::{builtin_named, command_named};
+use tcl_calls::lookup::{Callee, callee_named};
 use tcl_prepared::prepared::PreparedWord;
 use tcl_run::interruption::Interruption;
 use tcl_run::outside::Outside;
@@ -156,9 +156,13 @@ pub(crate) fn call_at_hand<O: Outside>(
     name.keeps_limit();
     let hand = words_at_hand(tree, alloc, place, rest)?;
     let args = hand.values.as_slice();
-    if let Some(builtin) = builtin_named(tree, place, name) {
-        return Some(call_known_on_hand(tree, alloc, outside, place, builtin, hand.sums, args));
-    }
-    let command = command_named(tree, alloc, place, name)?;
-    Some(call_on_hand(tree, alloc, outside, place, &command, name, hand.sums, args))
+    let callee = callee_named(tree, alloc, place, name)?;
+    Some(match callee {
+        Callee::Builtin(builtin) => {
+            call_known_on_hand(tree, alloc, outside, place, builtin, hand.sums, args)
+        }
+        Callee::Other(command) => {
+            call_on_hand(tree, alloc, outside, place, &command, name, hand.sums, args)
+        }
+    })
 }

@@ -10,7 +10,7 @@ use crate::at_hand::{call_at_hand, call_known, call_named};
 use crate::commands::call;
 use crate::evaluation::eval_word;
 use std::alloc::Global;
-use tcl_calls::lookup::{builtin_named, command_named};
+use tcl_calls::lookup::{Callee, callee_named};
 use tcl_calls::words::{Words, spread};
 use tcl_prepared::prepared::PreparedWord;
 use tcl_run::interruption::Interruption;
@@ -64,11 +64,15 @@ pub fn call_literals<O: Outside>(
     ensures keeps { Keeps O.entries_left tree.old tree.new outside.old outside.new }
 {
     if let [word, args @ ..] = words {
-        if let Some(builtin) = builtin_named(tree, place, word) {
-            return call_known(tree, alloc, outside, place, builtin, args);
-        }
-        if let Some(command) = command_named(tree, alloc, place, word) {
-            return call_named(tree, alloc, outside, place, &command, word, args);
+        if let Some(callee) = callee_named(tree, alloc, place, word) {
+            return match callee {
+                Callee::Builtin(builtin) => {
+                    call_known(tree, alloc, outside, place, builtin, args)
+                }
+                Callee::Other(command) => {
+                    call_named(tree, alloc, outside, place, &command, word, args)
+                }
+            };
         }
     }
     call_texts(tree, alloc, outside, place, words)
