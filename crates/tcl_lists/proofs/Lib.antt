@@ -16,4 +16,3 @@ pub mod Levels
 pub mod NestedPlaces
 pub mod Placed
 pub mod Named
-pub mod Numbered

@@ -1,5 +1,5 @@
 -- The places that indexes name.
-use Rattle.std.proofs.Common.{◌≡◌, ℕ, ◌≤◌, IfOk, IfErr, subst, ℤ, pos, ◌-ℤ◌, w64, to_z, of_z, List, Ok, Err, Option, Some, None, refl, sym, ◌∙◌, ap}
+use Rattle.std.proofs.Common.{◌≡◌, ℕ, ◌≤◌, ℤ, pos, ◌-ℤ◌, w64, to_z, of_z, List, Ok, Err, Option, Some, None, refl, sym, ◌∙◌, ap}
 use Rattle.std.specs.Prelude.{ok_or, option_map}
 use Rattle.tcl_text.specs.declared.integer.Integers.{Integers}
 use Rattle.tcl_text.specs.Indexes.{index_of, place}
@@ -9,11 +9,8 @@ use Rattle.tcl_text.specs.declared.index.Index.{Index}
 use Rattle.tcl_text.specs.declared.index.IndexFault.{IndexFault}
 use Rattle.tcl_text.specs.declared.index.IndexFault.TheVariants.{BadIndex as NoIndex}
 use Rattle.tcl_text.proofs.Fitting.{fits_last}
-use Rattle.tcl_lists.specs.Nested.{place_within, place_found, place_or, Refuses}
-use Rattle.tcl_lists.specs.declared.fault.NestedFault.{NestedFault}
-use Rattle.tcl_lists.specs.declared.fault.NestedFault.TheVariants.{BadIndex, NoPlace}
-use Rattle.tcl_lists.specs.declared.fault.NestedError.{NestedError}
-use Rattle.tcl_lists.specs.declared.fault.NestedError.TheVariants.{Fault}
+use Rattle.tcl_lists.specs.Nested.{place_within, place_found, place_or}
+use Rattle.tcl_lists.specs.declared.fault.NestedFault.TheVariants.{BadIndex}
 
 different : (p : Index) → ◌≡◌ {A = Result Index IndexFault} (Ok p) (Err NoIndex) → ⊥
 different p e = cc
@@ -28,20 +25,6 @@ index_ok index count (Some p) to h =
 pub index_err : (index : List ℕ) (count : ℕ) (read : Option Index) (fault : IndexFault) → Err fault ≡ ok_or read NoIndex → place_or index count read ≡ Err (BadIndex index)
 index_err index count None fault h = refl
 index_err index count (Some p) fault h = let e : ◌≡◌ {A = Result Index IndexFault} (Err fault) (Ok p) = h in cc
-
-found_ok : (w : Option ℕ) (o : Result ℕ NestedFault) → o ≡ place_found w → IfOk (ok_or w (Fault NoPlace)) (λ n. o ≡ Ok n)
-found_ok (Some n) o h = h
-found_ok None o h = tt
-
-found_err : (w : Option ℕ) (o : Result ℕ NestedFault) → o ≡ place_found w → IfErr (ok_or w (Fault NoPlace)) (λ e. Refuses e o)
-found_err (Some n) o h = tt
-found_err None o h = h
-
-pub place_ok : (r : Result ℕ NestedError) (w : Option ℕ) (o : Result ℕ NestedFault) → r ≡ ok_or w (Fault NoPlace) → o ≡ place_found w → IfOk r (λ n. o ≡ Ok n)
-place_ok r w o e h = subst (λ z. IfOk z (λ n. o ≡ Ok n)) (sym e) (found_ok w o h)
-
-pub place_err : (r : Result ℕ NestedError) (w : Option ℕ) (o : Result ℕ NestedFault) → r ≡ ok_or w (Fault NoPlace) → o ≡ place_found w → IfErr r (λ e. Refuses e o)
-place_err r w o e h = subst (λ z. IfErr z (λ e. Refuses e o)) (sym e) (found_err w o h)
 
 pub last_same : (last : ℤ) (count : ℕ) → count ≤ 16777216 → last ≡ pos count -ℤ pos 1 → to_z w64 (of_z w64 last) ≡ pos count -ℤ pos 1
 last_same last count h e = ap (λ (z : ℤ). to_z w64 (of_z w64 z)) e ∙ to_z-of_z w64 (pos count -ℤ pos 1) (fits_last count h)
