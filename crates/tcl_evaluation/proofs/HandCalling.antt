@@ -1,5 +1,5 @@
 -- What calls come to whose words are at hand.
-use Rattle.std.proofs.Common.{◌≡◌, inl, inr, ℕ, ◌≤◌, Bool, true, false, List, [], ◌∷◌, ◌++◌, length, Some, None, refl, sym, ◌∙◌, ap, subst, append-nil, append_assoc, length-append, arith}
+use Rattle.std.proofs.Common.{◌≡◌, inl, inr, ℕ, ◌≤◌, Bool, true, false, List, [], ◌∷◌, ◌++◌, length, Option, IfSome, Some, None, refl, sym, ◌∙◌, ap, subst, append-nil, append_assoc, length-append, arith}
 use Rattle.std.proofs.lemmas.Bool.Decides.{nat_tests}
 use Rattle.tcl_core.specs.Paths.{Path}
 use Rattle.tcl_core.specs.Endings.{ok}
@@ -135,3 +135,11 @@ ends_append style n (w ∷ ws) vs (x ∷ ts) us a b c e (inl h) k = inl (h.0, en
 ends_append style n (w ∷ ws) vs (x ∷ ts) us a b c e (inr h) k =
     let only = only_first b c (ap (λ (y : Bool). one_of y b) (sym h.0) ∙ e) in
     inr (only.1, h.1, all_append n.own.chain.frames ws vs ts us h.2 (none_sums style n vs us (subst (λ (y : Bool). AllEnd style n vs y us) only.0 k)))
+
+pub two_end : (style : Integers) (n : Node Own) (v w : WordRead) (a b c : Bool) (x y : List ℕ) → one_of a b ≡ Some c → EndsAs style n v a x → EndsAs style n w b y → AllEnd style n (v ∷ w ∷ []) c (x ∷ y ∷ [])
+two_end style n v w a b c x y e h k = ends_append style n (v ∷ []) (w ∷ []) (x ∷ []) (y ∷ []) a b c e (ends_one style n v a x h) (ends_one style n w b y k)
+
+-- what comes of a call, where there is one
+pub some_more : {X : Type 0} (o : Option X) (P Q : X → Type 0) → ((x : X) → P x → Q x) → IfSome o P → IfSome o Q
+some_more None P Q f h = tt
+some_more (Some x) P Q f h = f x h

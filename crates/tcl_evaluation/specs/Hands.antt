@@ -26,8 +26,6 @@ use Rattle.tcl_tree.specs.declared.tree.Place.{Place}
 use Rattle.tcl_tree.specs.declared.tree.Tree.{Tree as Table}
 use Rattle.tcl_value.specs.Texts.{AllWithin}
 use Rattle.tcl_calls.specs.Expressions.{IsKept}
-use Rattle.tcl_evaluation.specs.declared.hands.Values.{Values}
-use Rattle.tcl_evaluation.specs.declared.hands.Values.TheVariants as variant
 use Rattle.tcl_calls.specs.Found.{found}
 
 -- ## Words
@@ -125,20 +123,8 @@ AllEnd style n (w ∷ words) sums (t ∷ texts) =
     (StandsFor n.own.chain.frames w t × AllEnd style n words sums texts) ⊎
     ((sums ≡ true) × IsSumWord style n w t × AllStand n.own.chain.frames words texts)
 
--- and so in the interpreter that a place names
-abbrev pub AllEndIn : Table → Place → List WordRead → Bool → List Text → Type 0
-AllEndIn t place words sums texts = (p : Path) (n : Node Own) → Names t place p →
-    tree_of t p ≡ Some n → AllEnd (marks_of t).integers n words sums texts
-
 -- whether one of two is told, unless both are
 abbrev pub one_of : Bool → Bool → Option Bool
 one_of true true = None
 one_of true false = Some true
 one_of false other = Some other
-
--- the texts of up to four words
-abbrev pub texts_of : Values → List Text
-texts_of (variant.One texts) = texts
-texts_of (variant.Two texts) = texts
-texts_of (variant.Three texts) = texts
-texts_of (variant.Four texts) = texts

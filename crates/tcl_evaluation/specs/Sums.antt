@@ -9,6 +9,7 @@ use Rattle.tcl_interpreter.specs.declared.command.Command.TheVariants as command
 use Rattle.tcl_language.specs.Scripts.{words}
 use Rattle.tcl_run.specs.Language.{language}
 use Rattle.tcl_parser.specs.Words.{Reading, WordRead}
+use Rattle.tcl_prepared.specs.Views.{literal_word}
 use Rattle.tcl_run.specs.Runs.{IsAt, IsThere, Proceeds, Ways}
 use Rattle.tcl_text.specs.declared.integer.Integers.{Integers}
 use Rattle.tcl_tree.specs.Own.{Own}
@@ -51,3 +52,12 @@ abbrev pub CallsBuiltinAtHand : {S : Type 0} → Ways S → Table → S → Plac
     List Text → Table → S → Ending → Type 0
 CallsBuiltinAtHand ways old o place builtin sums args new z e = (word : Text) →
     CallsAtHand ways old o place (command.Builtin builtin) word sums args new z e
+
+-- and so does the command that a literal names in the interpreter, whose other words end so
+abbrev pub CallsOnHand : {S : Type 0} → Ways S → Table → S → Place → Text → Bool → List Text →
+    Table → S → Ending → Type 0
+CallsOnHand ways old o place name sums args new z e = (p : Path) (style : Integers)
+    (n : Node Own) → IsAt old place p style → tree_of old p ≡ Some n → (ws : List WordRead) →
+    AllEnd style n ws sums args →
+    Proceeds ways (language style) (tree_of old) o p (words (literal_word name ∷ ws) [])
+    (tree_of new) z e

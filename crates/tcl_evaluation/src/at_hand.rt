@@ -1,15 +1,15 @@
 //! Calls of commands whose words are at hand: they aren't evaluated one by one.
-ghost use Rattle.std.specs.Prelude.{◌≡◌, [], map, IfSome, IfNone};
+ghost use Rattle.std.specs.Prelude.{◌≡◌, ◌∷◌, [], map, IfSome, IfNone};
 ghost use Rattle.tcl_language.specs.Scripts as scripts;
-ghost use Rattle.tcl_prepared.specs.Views.{seen_word};
+ghost use Rattle.tcl_prepared.specs.Views.{literal_word, seen_word};
 ghost use Rattle.tcl_run.specs.Ends.{IfRan, OnCompletion};
 ghost use Rattle.tcl_run.specs.Runs.{IsHere, IsRunning, Keeps, ProceedsIn, ways};
 ghost use Rattle.tcl_evaluation.specs.Sums.{CallsAtHand, CallsBuiltin, CallsBuiltinAtHand};
-ghost use Rattle.tcl_evaluation.specs.Sums.{CallsNamed};
+ghost use Rattle.tcl_evaluation.specs.Sums.{CallsNamed, CallsOnHand};
 
 use crate::calls::call_plain_command;
 use crate::commands::{call_builtin, call_command};
-use crate::hands::{is_plain, words_at_hand};
+use crate::hands::{end_at_hand, is_plain, one_of};
 use crate::sums::count_sum;
 use std::alloc::Global;
 use tcl_calls::lookup::{Callee, callee_named};
@@ -102,7 +102,7 @@ fn call_known_on_hand<O: Outside>(
 
 /// The same of any command.
 #[cycle(eval)]
-fn call_on_hand<O: Outside>(
+fn call_named_on_hand<O: Outside>(
     tree: &mut Tree,
     alloc: Global,
     outside: &mut O,
@@ -125,6 +125,156 @@ fn call_on_hand<O: Outside>(
     call_named(tree, alloc, outside, place, command, word, args)
 }
 
+/// Calls the command that a literal names, where these are its other words, one of which may be a
+/// sum that isn't counted yet. It is looked up once, before it is counted. Where it isn't found so,
+/// nothing has happened.
+#[cycle(eval)]
+#[inline(never)]
+fn call_on_hand<O: Outside>(
+    tree: &mut Tree,
+    alloc: Global,
+    outside: &mut O,
+    place: Place,
+    name: &Value,
+    sums: bool,
+    args: &[Value],
+) -> Option<Result<Value, Interruption>>
+    requires { IsRunning tree.old place }
+    ensures runs { IfSome result (λ ended. IfRan ended (CallsOnHand (ways O.goes O.loses) tree.old
+        outside.old place name.now sums args.now tree.new outside.new)) }
+    ensures here { IfSome result (λ ended. OnCompletion ended (IsHere tree.old tree.new place)) }
+    ensures keeps { Keeps O.entries_left tree.old tree.new outside.old outside.new }
+    ensures unchanged { IfNone result ((tree.new ≡ tree.old) × (outside.new ≡ outside.old)) }
+{
+    name.keeps_limit();
+    let callee = callee_named(tree, alloc, place, name)?;
+    match callee {
+        Callee::Builtin(builtin) => {
+            Some(call_known_on_hand(tree, alloc, outside, place, builtin, sums, args))
+        }
+        Callee::Other(command) => {
+            Some(call_named_on_hand(tree, alloc, outside, place, &command, name, sums, args))
+        }
+    }
+}
+
+/// Calls the command that a literal names with one other word, if that is at hand. Where it isn't,
+/// nothing has happened.
+#[cycle(eval)]
+#[inline(never)]
+fn call_one_at_hand<O: Outside>(
+    tree: &mut Tree,
+    alloc: Global,
+    outside: &mut O,
+    place: Place,
+    name: &Value,
+    words: &[PreparedWord],
+) -> Option<Result<Value, Interruption>>
+    requires { IsRunning tree.old place }
+    ensures runs { IfSome result (λ ended. ProceedsIn (ways O.goes O.loses) tree.old outside.old
+        place (λ style. scripts.words (literal_word name.now ∷ map seen_word words.now) []) tree.new
+        outside.new ended) }
+    ensures here { IfSome result (λ ended. OnCompletion ended (IsHere tree.old tree.new place)) }
+    ensures keeps { Keeps O.entries_left tree.old tree.new outside.old outside.new }
+    ensures unchanged { IfNone result ((tree.new ≡ tree.old) × (outside.new ≡ outside.old)) }
+{
+    let [word] = words else {
+        return None;
+    };
+    let (value, sums) = end_at_hand(tree, alloc, place, word)?;
+    call_on_hand(tree, alloc, outside, place, name, sums, &[value])
+}
+
+/// The same of two other words, of which at most one is a sum.
+#[cycle(eval)]
+#[inline(never)]
+fn call_two_at_hand<O: Outside>(
+    tree: &mut Tree,
+    alloc: Global,
+    outside: &mut O,
+    place: Place,
+    name: &Value,
+    words: &[PreparedWord],
+) -> Option<Result<Value, Interruption>>
+    requires { IsRunning tree.old place }
+    ensures runs { IfSome result (λ ended. ProceedsIn (ways O.goes O.loses) tree.old outside.old
+        place (λ style. scripts.words (literal_word name.now ∷ map seen_word words.now) []) tree.new
+        outside.new ended) }
+    ensures here { IfSome result (λ ended. OnCompletion ended (IsHere tree.old tree.new place)) }
+    ensures keeps { Keeps O.entries_left tree.old tree.new outside.old outside.new }
+    ensures unchanged { IfNone result ((tree.new ≡ tree.old) × (outside.new ≡ outside.old)) }
+{
+    let [first, second] = words else {
+        return None;
+    };
+    let (a, in_first) = end_at_hand(tree, alloc, place, first)?;
+    let (b, in_second) = end_at_hand(tree, alloc, place, second)?;
+    let sums = one_of(in_first, in_second)?;
+    call_on_hand(tree, alloc, outside, place, name, sums, &[a, b])
+}
+
+/// The same of three other words.
+#[cycle(eval)]
+#[inline(never)]
+fn call_three_at_hand<O: Outside>(
+    tree: &mut Tree,
+    alloc: Global,
+    outside: &mut O,
+    place: Place,
+    name: &Value,
+    words: &[PreparedWord],
+) -> Option<Result<Value, Interruption>>
+    requires { IsRunning tree.old place }
+    ensures runs { IfSome result (λ ended. ProceedsIn (ways O.goes O.loses) tree.old outside.old
+        place (λ style. scripts.words (literal_word name.now ∷ map seen_word words.now) []) tree.new
+        outside.new ended) }
+    ensures here { IfSome result (λ ended. OnCompletion ended (IsHere tree.old tree.new place)) }
+    ensures keeps { Keeps O.entries_left tree.old tree.new outside.old outside.new }
+    ensures unchanged { IfNone result ((tree.new ≡ tree.old) × (outside.new ≡ outside.old)) }
+{
+    let [first, second, third] = words else {
+        return None;
+    };
+    let (a, in_first) = end_at_hand(tree, alloc, place, first)?;
+    let (b, in_second) = end_at_hand(tree, alloc, place, second)?;
+    let (c, in_third) = end_at_hand(tree, alloc, place, third)?;
+    let before = one_of(in_first, in_second)?;
+    let sums = one_of(before, in_third)?;
+    call_on_hand(tree, alloc, outside, place, name, sums, &[a, b, c])
+}
+
+/// The same of four other words.
+#[cycle(eval)]
+#[inline(never)]
+fn call_four_at_hand<O: Outside>(
+    tree: &mut Tree,
+    alloc: Global,
+    outside: &mut O,
+    place: Place,
+    name: &Value,
+    words: &[PreparedWord],
+) -> Option<Result<Value, Interruption>>
+    requires { IsRunning tree.old place }
+    ensures runs { IfSome result (λ ended. ProceedsIn (ways O.goes O.loses) tree.old outside.old
+        place (λ style. scripts.words (literal_word name.now ∷ map seen_word words.now) []) tree.new
+        outside.new ended) }
+    ensures here { IfSome result (λ ended. OnCompletion ended (IsHere tree.old tree.new place)) }
+    ensures keeps { Keeps O.entries_left tree.old tree.new outside.old outside.new }
+    ensures unchanged { IfNone result ((tree.new ≡ tree.old) × (outside.new ≡ outside.old)) }
+{
+    let [first, second, third, fourth] = words else {
+        return None;
+    };
+    let (a, in_first) = end_at_hand(tree, alloc, place, first)?;
+    let (b, in_second) = end_at_hand(tree, alloc, place, second)?;
+    let (c, in_third) = end_at_hand(tree, alloc, place, third)?;
+    let (d, in_fourth) = end_at_hand(tree, alloc, place, fourth)?;
+    let before = one_of(in_first, in_second)?;
+    let behind = one_of(in_third, in_fourth)?;
+    let sums = one_of(before, behind)?;
+    call_on_hand(tree, alloc, outside, place, name, sums, &[a, b, c, d])
+}
+
 /// Calls a command whose words are at hand: a literal names it, and the others are literals or
 /// variables of the current frame, or one is a sum. It is looked up once, before it is counted.
 /// Where it isn't found so, nothing has happened.
@@ -132,7 +282,6 @@ fn call_on_hand<O: Outside>(
 /// # Errors
 /// The stop 308, and the error 308 of a sum; those of the command; want of memory.
 #[cycle(eval)]
-#[inline(never)]
 pub(crate) fn call_at_hand<O: Outside>(
     tree: &mut Tree,
     alloc: Global,
@@ -153,16 +302,11 @@ pub(crate) fn call_at_hand<O: Outside>(
     let PreparedWord::Literal(name) = first else {
         return None;
     };
-    name.keeps_limit();
-    let hand = words_at_hand(tree, alloc, place, rest)?;
-    let args = hand.values.as_slice();
-    let callee = callee_named(tree, alloc, place, name)?;
-    Some(match callee {
-        Callee::Builtin(builtin) => {
-            call_known_on_hand(tree, alloc, outside, place, builtin, hand.sums, args)
-        }
-        Callee::Other(command) => {
-            call_on_hand(tree, alloc, outside, place, &command, name, hand.sums, args)
-        }
-    })
+    match rest {
+        [_] => call_one_at_hand(tree, alloc, outside, place, name, rest),
+        [_, _] => call_two_at_hand(tree, alloc, outside, place, name, rest),
+        [_, _, _] => call_three_at_hand(tree, alloc, outside, place, name, rest),
+        [_, _, _, _] => call_four_at_hand(tree, alloc, outside, place, name, rest),
+        _ => None,
+    }
 }

@@ -5,8 +5,8 @@ ghost use Rattle.tcl_language.specs.Instructions.{fits};
 ghost use Rattle.tcl_parser.specs.declared.script.Part.TheVariants.{Script};
 ghost use Rattle.std.specs.String.{string_bytes};
 ghost use Rattle.tcl_prepared.specs.Views.{seen_part, seen_word};
-ghost use Rattle.tcl_evaluation.specs.Hands.{AllEndIn, EndsIn, IsSumIn, PartAdds, PartsStand};
-ghost use Rattle.tcl_evaluation.specs.Hands.{StandsFor, one_of, texts_of};
+ghost use Rattle.tcl_evaluation.specs.Hands.{EndsIn, IsSumIn, PartAdds, PartsStand, StandsFor};
+ghost use Rattle.tcl_evaluation.specs.Hands.{one_of};
 
 use std::alloc::Global;
 use tcl_calls::expressions::{number_at, read_expression};
@@ -144,7 +144,7 @@ fn bracket_of(word: &PreparedWord) -> Option<&Bracket>
 }
 
 /// What a word stands for, and whether it is a sum in brackets, which isn't counted yet.
-fn end_at_hand(
+pub(crate) fn end_at_hand(
     tree: &Tree,
     alloc: Global,
     place: Place,
@@ -159,100 +159,13 @@ fn end_at_hand(
     Some((word_at_hand(tree, alloc, place, word)?, false))
 }
 
-/// The values of up to four words.
-#[derive(Drop)]
-pub enum Values {
-    One([Value; 1]),
-    Two([Value; 2]),
-    Three([Value; 3]),
-    Four([Value; 4]),
-}
-
-impl Values {
-    /// Them, from the first word on.
-    pub fn as_slice(&self) -> &[Value]
-        ensures { result.now ≡ texts_of self.now }
-    {
-        match self {
-            Values::One(values) => values,
-            Values::Two(values) => values,
-            Values::Three(values) => values,
-            Values::Four(values) => values,
-        }
-    }
-}
-
-/// What words stand for that are at hand.
-#[derive(Drop)]
-pub struct WordsAtHand {
-    pub values: Values,
-    /// Whether one of them is a sum in brackets, which isn't counted yet.
-    pub sums: bool,
-}
-
 /// Whether one of two is told, unless both are.
-fn one_of(first: bool, second: bool) -> Option<bool>
+pub(crate) fn one_of(first: bool, second: bool) -> Option<bool>
     ensures { result ≡ one_of first second }
 {
     if first && second {
         None
     } else {
         Some(first || second)
-    }
-}
-
-/// What two words stand for, as [`words_at_hand`].
-fn two_at_hand(
-    tree: &Tree,
-    alloc: Global,
-    place: Place,
-    first: &PreparedWord,
-    second: &PreparedWord,
-) -> Option<(Value, Value, bool)>
-    ensures { IfSome result (λ hand. AllEndIn tree.now place
-        (seen_word first.now ∷ seen_word second.now ∷ []) hand.2 (hand.0 ∷ hand.1 ∷ [])) }
-{
-    let (value, sum) = end_at_hand(tree, alloc, place, first)?;
-    let (other, other_sum) = end_at_hand(tree, alloc, place, second)?;
-    Some((value, other, one_of(sum, other_sum)?))
-}
-
-/// What these one to four words stand for, where each of them is at hand, and at most one is a sum.
-#[inline(never)]
-pub fn words_at_hand(
-    tree: &Tree,
-    alloc: Global,
-    place: Place,
-    words: &[PreparedWord],
-) -> Option<WordsAtHand>
-    ensures { IfSome result (λ hand. AllEndIn tree.now place (map seen_word words.now) hand.sums
-        (texts_of hand.values)) }
-{
-    match words {
-        [word] => {
-            let (value, sums) = end_at_hand(tree, alloc, place, word)?;
-            let values = Values::One([value]);
-            Some(WordsAtHand { values, sums })
-        }
-        [first, second] => {
-            let (a, b, sums) = two_at_hand(tree, alloc, place, first, second)?;
-            let values = Values::Two([a, b]);
-            Some(WordsAtHand { values, sums })
-        }
-        [first, second, third] => {
-            let (a, b, sum) = two_at_hand(tree, alloc, place, first, second)?;
-            let (c, last) = end_at_hand(tree, alloc, place, third)?;
-            let values = Values::Three([a, b, c]);
-            let sums = one_of(sum, last)?;
-            Some(WordsAtHand { values, sums })
-        }
-        [first, second, third, fourth] => {
-            let (a, b, sum) = two_at_hand(tree, alloc, place, first, second)?;
-            let (c, d, last) = two_at_hand(tree, alloc, place, third, fourth)?;
-            let values = Values::Four([a, b, c, d]);
-            let sums = one_of(sum, last)?;
-            Some(WordsAtHand { values, sums })
-        }
-        _ => None,
     }
 }

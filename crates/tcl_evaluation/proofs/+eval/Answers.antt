@@ -41,14 +41,14 @@ use Rattle.tcl_language.specs.Table.{dispatch}
 use Rattle.tcl_run.specs.Ends.{itself}
 use Rattle.tcl_flow.specs.View.{completion_of}
 use Rattle.tcl_language.specs.Control.{code_text, eval as control_eval, catch as control_catch}
-use Rattle.tcl_calls.specs.Found.{found}
+use Rattle.tcl_calls.specs.Found.{callee_command, found}
 use Rattle.tcl_evaluation.proofs.Found.{call_found, call_missing}
 use Rattle.tcl_evaluation.proofs.Catching.{caught_ok, caught_err, eval_runs, eval_long, eval_none, catch_goes, catch_passes, catch_none, catch_many}
 use Rattle.tcl_evaluation.specs.View.{targeted, unhidden}
 use Rattle.std.proofs.Common.{false}
 use Rattle.std.specs.Prelude.{Err}
 use Rattle.tcl_text.specs.declared.integer.Integers.{Integers}
-use Rattle.tcl_text.proofs.Items.{item_on, none_on, no_item, split_first, one_item, two_items, three_items}
+use Rattle.tcl_text.proofs.Items.{item_on, none_on, no_item, split_first, one_item, two_items, three_items, four_items}
 use Rattle.std.proofs.lemmas.Bool.Decides.{nat_tests}
 use Rattle.std.proofs.Common.{Option}
 use Rattle.tcl_parser.specs.declared.fault.Fault.{Fault}
@@ -155,11 +155,11 @@ use Rattle.tcl_run.proofs.Proceeding.{does_proceeds, stopped, stopped_by}
 use Rattle.tcl_language.specs.Definitions as definitions
 use Rattle.tcl_interpreter.specs.declared.builtin.Builtin.{Builtin}
 use Rattle.tcl_evaluation.proofs.HandPlainly.{acts_proceeds, sum_in, unchanged_runs}
-use Rattle.tcl_evaluation.specs.Sums.{CallsAtHand, CallsBuiltin, CallsBuiltinAtHand, CallsNamed}
+use Rattle.tcl_evaluation.specs.Sums.{CallsAtHand, CallsBuiltin, CallsBuiltinAtHand, CallsNamed, CallsOnHand}
 use Rattle.tcl_interpreter.specs.declared.command.Command.TheVariants as command
 use Rattle.std.proofs.Common.{Bool}
 use Rattle.tcl_parser.specs.Reading.{read_script}
-use Rattle.tcl_evaluation.specs.Hands.{AllEnd, IsNamed, texts_of}
+use Rattle.tcl_evaluation.specs.Hands.{AllEnd, IsNamed}
 use Rattle.tcl_evaluation.proofs.HandCalling as Calls
 use Rattle.tcl_evaluation.proofs.Own.{charged_own, named_own}
 use Rattle.tcl_evaluation.proofs.HandPlainly.{there_at}
@@ -246,27 +246,27 @@ words::call_literals-returns-clause-runs g t c =
     (EndsFrom (ways g.O.Outside.goes g.O.Outside.loses) c.args.tree.now c.args.outside.now c.args.place (λ style. words (map literal_word c.args.words.now) []) c.call_texts.new.tree c.call_texts.new.outside)
     (λ e h q style at. Steps.lends style c.args.words.now [] c.requires.within (h q style at)) c.call_texts.ensures.runs
 
-pub words::call_literals-returns-in-Some-clause-runs : goal.words::call_literals-returns-in-Some-clause-runs
-words::call_literals-returns-in-Some-clause-runs g t c =
+pub words::call_literals-returns-in-Builtin-clause-runs : goal.words::call_literals-returns-in-Builtin-clause-runs
+words::call_literals-returns-in-Builtin-clause-runs g t c =
     let more = take (length c.args.words.now - 1) (drop 1 c.args.words.now) in
     IfRan-more c.call_known.result
-    (CallsBuiltin (ways g.O.Outside.goes g.O.Outside.loses) c.args.tree.now c.args.outside.now c.args.place c.in-Some.builtin more c.call_known.new.tree c.call_known.new.outside)
+    (CallsBuiltin (ways g.O.Outside.goes g.O.Outside.loses) c.args.tree.now c.args.outside.now c.args.place c.in-Builtin.builtin more c.call_known.new.tree c.call_known.new.outside)
     (EndsFrom (ways g.O.Outside.goes g.O.Outside.loses) c.args.tree.now c.args.outside.now c.args.place (λ style. words (map literal_word c.args.words.now) []) c.call_known.new.tree c.call_known.new.outside)
     (λ e h q style at. let n = stands (tree_of c.args.tree.now q) (tree_there c.args.tree.now q _ at.names) in
     Steps.lends style c.args.words.now [] c.requires.within
     (at_prog (ap (words []) (split_first c.args.words.now c.word-item.result c.in-len1-up.len_at_least c.word-item.is))
-    (h c.word-item.result q style n.0 at n.1 (c.in-Some.ensures q n.0 at.names n.1)))) c.call_known.ensures.runs
+    (h c.word-item.result q style n.0 at n.1 (c.in-Some.ensures q n.0 at.names n.1 ∙ ap (λ x. Ok (callee_command x)) c.in-Builtin.is)))) c.call_known.ensures.runs
 
-pub words::call_literals-returns-in-Some-command_named-clause-runs : goal.words::call_literals-returns-in-Some-command_named-clause-runs
-words::call_literals-returns-in-Some-command_named-clause-runs g t c =
+pub words::call_literals-returns-in-Other-clause-runs : goal.words::call_literals-returns-in-Other-clause-runs
+words::call_literals-returns-in-Other-clause-runs g t c =
     let more = take (length c.args.words.now - 1) (drop 1 c.args.words.now) in
     IfRan-more c.call_named.result
-    (CallsNamed (ways g.O.Outside.goes g.O.Outside.loses) c.args.tree.now c.args.outside.now c.args.place c.in-Some-command_named.command c.word-item.result more c.call_named.new.tree c.call_named.new.outside)
+    (CallsNamed (ways g.O.Outside.goes g.O.Outside.loses) c.args.tree.now c.args.outside.now c.args.place c.in-Other.command c.word-item.result more c.call_named.new.tree c.call_named.new.outside)
     (EndsFrom (ways g.O.Outside.goes g.O.Outside.loses) c.args.tree.now c.args.outside.now c.args.place (λ style. words (map literal_word c.args.words.now) []) c.call_named.new.tree c.call_named.new.outside)
     (λ e h q style at. let n = stands (tree_of c.args.tree.now q) (tree_there c.args.tree.now q _ at.names) in
     Steps.lends style c.args.words.now [] c.requires.within
     (at_prog (ap (words []) (split_first c.args.words.now c.word-item.result c.in-len1-up.len_at_least c.word-item.is))
-    (h q style n.0 at n.1 (c.in-Some-command_named.ensures q n.0 at.names n.1)))) c.call_named.ensures.runs
+    (h q style n.0 at n.1 (c.in-Some.ensures q n.0 at.names n.1 ∙ ap (λ x. Ok (callee_command x)) c.in-Other.is)))) c.call_named.ensures.runs
 
 -- calls whose words are at hand
 
@@ -391,22 +391,22 @@ at_hand::call_known_on_hand-returns-clause-runs g t c =
     Calls.plain_goes style ws (word ∷ c.args.args.now) there k (h word q style n at there named))
     c.call_known-2.ensures.runs
 
-pub at_hand::call_on_hand-returns-in_err-count_sum-clause-runs : goal.at_hand::call_on_hand-returns-in_err-count_sum-clause-runs
-at_hand::call_on_hand-returns-in_err-count_sum-clause-runs g t c =
+pub at_hand::call_named_on_hand-returns-in_err-count_sum-clause-runs : goal.at_hand::call_named_on_hand-returns-in_err-count_sum-clause-runs
+at_hand::call_named_on_hand-returns-in_err-count_sum-clause-runs g t c =
     let p = err_from_is_err_and c.from_residual.result c.from_residual.ensures.1 in
     ran_err c.from_residual.result c.in_err-count_sum.field-0.0 p.0 _ _ _ p.1 p.2 c.in_err-count_sum.ensures.breaks
     (λ e h q style n at there named ws call.
     let k = subst (λ (b : Bool). AllEnd style n ws b (c.args.word.now ∷ c.args.args.now)) c.if-sums.true call in
     Calls.sum_ends style ws [] (c.args.word.now ∷ c.args.args.now) e there k h.0 (λ inner text is. h.1 q style n (there_at c.args.tree.now c.args.place q style at) there (read_script inner) text is))
 
-pub at_hand::call_on_hand-returns-in_err-count_sum-clause-here : goal.at_hand::call_on_hand-returns-in_err-count_sum-clause-here
-at_hand::call_on_hand-returns-in_err-count_sum-clause-here g t c = on_completion c.from_residual.result (IsHere c.args.tree.now c.count_sum.new.tree c.args.place) c.count_sum.ensures.here
+pub at_hand::call_named_on_hand-returns-in_err-count_sum-clause-here : goal.at_hand::call_named_on_hand-returns-in_err-count_sum-clause-here
+at_hand::call_named_on_hand-returns-in_err-count_sum-clause-here g t c = on_completion c.from_residual.result (IsHere c.args.tree.now c.count_sum.new.tree c.args.place) c.count_sum.ensures.here
 
-pub at_hand::call_on_hand-call_named-requires : goal.at_hand::call_on_hand-call_named-requires
-at_hand::call_on_hand-call_named-requires g t c κs within = (search rules, (search rules, still_running c.args.tree.now c.count_sum.new.tree c.args.place c.count_sum.ensures.here c.requires))
+pub at_hand::call_named_on_hand-call_named-requires : goal.at_hand::call_named_on_hand-call_named-requires
+at_hand::call_named_on_hand-call_named-requires g t c κs within = (search rules, (search rules, still_running c.args.tree.now c.count_sum.new.tree c.args.place c.count_sum.ensures.here c.requires))
 
-pub at_hand::call_on_hand-returns-then-sums-clause-runs : goal.at_hand::call_on_hand-returns-then-sums-clause-runs
-at_hand::call_on_hand-returns-then-sums-clause-runs g t c =
+pub at_hand::call_named_on_hand-returns-then-sums-clause-runs : goal.at_hand::call_named_on_hand-returns-then-sums-clause-runs
+at_hand::call_named_on_hand-returns-then-sums-clause-runs g t c =
     IfRan-more c.call_named.result
     (CallsNamed (ways g.O.Outside.goes g.O.Outside.loses) c.count_sum.new.tree c.count_sum.new.outside c.args.place c.args.command.now c.args.word.now c.args.args.now c.call_named.new.tree c.call_named.new.outside)
     (CallsAtHand (ways g.O.Outside.goes g.O.Outside.loses) c.args.tree.now c.args.outside.now c.args.place c.args.command.now c.args.word.now c.args.sums c.args.args.now c.call_named.new.tree c.call_named.new.outside)
@@ -417,14 +417,14 @@ at_hand::call_on_hand-returns-then-sums-clause-runs g t c =
     (h q style m.0 (still_at c.args.tree.now c.count_sum.new.tree c.args.place q style c.count_sum.ensures.here at) m.1 (named_own n m.0 c.args.word.now c.args.command.now m.2 named)))
     c.call_named.ensures.runs
 
-pub at_hand::call_on_hand-returns-then-sums-clause-here : goal.at_hand::call_on_hand-returns-then-sums-clause-here
-at_hand::call_on_hand-returns-then-sums-clause-here g t c = here_then c.call_named.result c.args.tree.now c.count_sum.new.tree c.call_named.new.tree c.args.place c.count_sum.ensures.here c.call_named.ensures.here
+pub at_hand::call_named_on_hand-returns-then-sums-clause-here : goal.at_hand::call_named_on_hand-returns-then-sums-clause-here
+at_hand::call_named_on_hand-returns-then-sums-clause-here g t c = here_then c.call_named.result c.args.tree.now c.count_sum.new.tree c.call_named.new.tree c.args.place c.count_sum.ensures.here c.call_named.ensures.here
 
-pub at_hand::call_on_hand-returns-then-sums-clause-keeps : goal.at_hand::call_on_hand-returns-then-sums-clause-keeps
-at_hand::call_on_hand-returns-then-sums-clause-keeps g t c = keeps-trans c.count_sum.ensures.keeps c.call_named.ensures.keeps
+pub at_hand::call_named_on_hand-returns-then-sums-clause-keeps : goal.at_hand::call_named_on_hand-returns-then-sums-clause-keeps
+at_hand::call_named_on_hand-returns-then-sums-clause-keeps g t c = keeps-trans c.count_sum.ensures.keeps c.call_named.ensures.keeps
 
-pub at_hand::call_on_hand-returns-clause-runs : goal.at_hand::call_on_hand-returns-clause-runs
-at_hand::call_on_hand-returns-clause-runs g t c =
+pub at_hand::call_named_on_hand-returns-clause-runs : goal.at_hand::call_named_on_hand-returns-clause-runs
+at_hand::call_named_on_hand-returns-clause-runs g t c =
     IfRan-more c.call_named-2.result
     (CallsNamed (ways g.O.Outside.goes g.O.Outside.loses) c.args.tree.now c.args.outside.now c.args.place c.args.command.now c.args.word.now c.args.args.now c.call_named-2.new.tree c.call_named-2.new.outside)
     (CallsAtHand (ways g.O.Outside.goes g.O.Outside.loses) c.args.tree.now c.args.outside.now c.args.place c.args.command.now c.args.word.now c.args.sums c.args.args.now c.call_named-2.new.tree c.call_named-2.new.outside)
@@ -433,37 +433,151 @@ at_hand::call_on_hand-returns-clause-runs g t c =
     Calls.plain_goes style ws (c.args.word.now ∷ c.args.args.now) there k (h q style n at there named))
     c.call_named-2.ensures.runs
 
-pub at_hand::call_at_hand-returns-in-Some-clause-runs : goal.at_hand::call_at_hand-returns-in-Some-clause-runs
-at_hand::call_at_hand-returns-in-Some-clause-runs g t c =
-    let rest = take (length c.args.words.now - 1) (drop 1 c.args.words.now) in
-    let values = texts_of c.in_ok-hand.hand.values in
+pub at_hand::call_on_hand-returns-in-Builtin-clause-runs : goal.at_hand::call_on_hand-returns-in-Builtin-clause-runs
+at_hand::call_on_hand-returns-in-Builtin-clause-runs g t c =
+    let name = c.args.name.now in
     IfRan-more c.call_known_on_hand.result
-    (CallsBuiltinAtHand (ways g.O.Outside.goes g.O.Outside.loses) c.args.tree.now c.args.outside.now c.args.place c.in-Some.builtin c.in_ok-hand.hand.sums c.as_slice-args.result.now c.call_known_on_hand.new.tree c.call_known_on_hand.new.outside)
-    (EndsFrom (ways g.O.Outside.goes g.O.Outside.loses) c.args.tree.now c.args.outside.now c.args.place (λ style. words (map seen_word c.args.words.now) []) c.call_known_on_hand.new.tree c.call_known_on_hand.new.outside)
-    (λ e h q style at.
-    let n = stands (tree_of c.args.tree.now q) (tree_there c.args.tree.now q _ at.names) in
-    let literal = Calls.literal_stands n.0.own.chain.frames (seen_word c.first-item.result) c.in-Literal.name (ap seen_word c.in-Literal.is) (Steps.within_fits c.in-Literal.name c.keeps_limit.ensures) in
-    let ends : AllEnd style n.0 (map seen_word rest) c.in_ok-hand.hand.sums values = subst (λ (s : Integers). AllEnd s n.0 (map seen_word rest) c.in_ok-hand.hand.sums values) at.style_is (c.in_ok-hand.ensures q n.0 at.names n.1) in
-    at_prog (ap (λ (ws : List PreparedWord). words (map seen_word ws) []) (split_first c.args.words.now c.first-item.result c.in-len1-up.len_at_least c.first-item.is))
-    (h c.in-Literal.name q style n.0 at n.1 (c.in-Some.ensures q n.0 at.names n.1) (seen_word c.first-item.result ∷ map seen_word rest)
-    (inl (literal, subst (λ (ts : List Text). AllEnd style n.0 (map seen_word rest) c.in_ok-hand.hand.sums ts) (sym c.as_slice-args.ensures) ends))))
+    (CallsBuiltinAtHand (ways g.O.Outside.goes g.O.Outside.loses) c.args.tree.now c.args.outside.now c.args.place c.in-Builtin.builtin c.args.sums c.args.args.now c.call_known_on_hand.new.tree c.call_known_on_hand.new.outside)
+    (CallsOnHand (ways g.O.Outside.goes g.O.Outside.loses) c.args.tree.now c.args.outside.now c.args.place name c.args.sums c.args.args.now c.call_known_on_hand.new.tree c.call_known_on_hand.new.outside)
+    (λ e h q style n at there ws ends.
+    let literal = Calls.literal_stands n.own.chain.frames (literal_word name) name refl (Steps.within_fits name c.keeps_limit.ensures) in
+    let named : IsNamed n name (command.Builtin c.in-Builtin.builtin) = c.in_ok-callee.ensures q n at.names there ∙ ap (λ x. Ok (callee_command x)) c.in-Builtin.is in
+    h name q style n at there named (literal_word name ∷ ws) (inl (literal, ends)))
     c.call_known_on_hand.ensures.runs
 
-pub at_hand::call_at_hand-returns-clause-runs : goal.at_hand::call_at_hand-returns-clause-runs
-at_hand::call_at_hand-returns-clause-runs g t c =
-    let rest = take (length c.args.words.now - 1) (drop 1 c.args.words.now) in
-    let values = texts_of c.in_ok-hand.hand.values in
-    IfRan-more c.call_on_hand.result
-    (CallsAtHand (ways g.O.Outside.goes g.O.Outside.loses) c.args.tree.now c.args.outside.now c.args.place c.in_ok-command.command c.in-Literal.name c.in_ok-hand.hand.sums c.as_slice-args.result.now c.call_on_hand.new.tree c.call_on_hand.new.outside)
-    (EndsFrom (ways g.O.Outside.goes g.O.Outside.loses) c.args.tree.now c.args.outside.now c.args.place (λ style. words (map seen_word c.args.words.now) []) c.call_on_hand.new.tree c.call_on_hand.new.outside)
-    (λ e h q style at.
+pub at_hand::call_on_hand-returns-in-Other-clause-runs : goal.at_hand::call_on_hand-returns-in-Other-clause-runs
+at_hand::call_on_hand-returns-in-Other-clause-runs g t c =
+    let name = c.args.name.now in
+    IfRan-more c.call_named_on_hand.result
+    (CallsAtHand (ways g.O.Outside.goes g.O.Outside.loses) c.args.tree.now c.args.outside.now c.args.place c.in-Other.command name c.args.sums c.args.args.now c.call_named_on_hand.new.tree c.call_named_on_hand.new.outside)
+    (CallsOnHand (ways g.O.Outside.goes g.O.Outside.loses) c.args.tree.now c.args.outside.now c.args.place name c.args.sums c.args.args.now c.call_named_on_hand.new.tree c.call_named_on_hand.new.outside)
+    (λ e h q style n at there ws ends.
+    let literal = Calls.literal_stands n.own.chain.frames (literal_word name) name refl (Steps.within_fits name c.keeps_limit.ensures) in
+    let named : IsNamed n name c.in-Other.command = c.in_ok-callee.ensures q n at.names there ∙ ap (λ x. Ok (callee_command x)) c.in-Other.is in
+    h q style n at there named (literal_word name ∷ ws) (inl (literal, ends)))
+    c.call_named_on_hand.ensures.runs
+
+pub at_hand::call_one_at_hand-returns-clause-runs : goal.at_hand::call_one_at_hand-returns-clause-runs
+at_hand::call_one_at_hand-returns-clause-runs g t c =
+    let name = c.args.name.now in
+    let style_read = c.args.tree.now.integers in
+    let word = seen_word c.word-item.result in
+    let is = one_item c.args.words.now c.word-item.result c.in-len1.len_at_least c.in-len1.len_below c.word-item.is in
+    Calls.some_more c.call_on_hand.result _ _
+    (λ ended. IfRan-more ended
+    (CallsOnHand (ways g.O.Outside.goes g.O.Outside.loses) c.args.tree.now c.args.outside.now c.args.place name c.in_ok-value.sums (c.in_ok-value.value ∷ []) c.call_on_hand.new.tree c.call_on_hand.new.outside)
+    (EndsFrom (ways g.O.Outside.goes g.O.Outside.loses) c.args.tree.now c.args.outside.now c.args.place (λ style. words (literal_word c.args.name.now ∷ map seen_word c.args.words.now) []) c.call_on_hand.new.tree c.call_on_hand.new.outside)
+    (λ e k q style at.
     let n = stands (tree_of c.args.tree.now q) (tree_there c.args.tree.now q _ at.names) in
-    let literal = Calls.literal_stands n.0.own.chain.frames (seen_word c.first-item.result) c.in-Literal.name (ap seen_word c.in-Literal.is) (Steps.within_fits c.in-Literal.name c.keeps_limit.ensures) in
-    let ends : AllEnd style n.0 (map seen_word rest) c.in_ok-hand.hand.sums values = subst (λ (s : Integers). AllEnd s n.0 (map seen_word rest) c.in_ok-hand.hand.sums values) at.style_is (c.in_ok-hand.ensures q n.0 at.names n.1) in
-    at_prog (ap (λ (ws : List PreparedWord). words (map seen_word ws) []) (split_first c.args.words.now c.first-item.result c.in-len1-up.len_at_least c.first-item.is))
-    (h q style n.0 at n.1 (c.in_ok-command.ensures q n.0 at.names n.1) (seen_word c.first-item.result ∷ map seen_word rest)
-    (inl (literal, subst (λ (ts : List Text). AllEnd style n.0 (map seen_word rest) c.in_ok-hand.hand.sums ts) (sym c.as_slice-args.ensures) ends))))
+    at_prog (ap (λ (ws : List PreparedWord). words (literal_word name ∷ map seen_word ws) []) is)
+    (k q style n.0 at n.1 (word ∷ [])
+    (subst (λ (s : Integers). AllEnd s n.0 (word ∷ []) c.in_ok-value.sums (c.in_ok-value.value ∷ [])) at.style_is
+    (Calls.ends_one style_read n.0 word c.in_ok-value.sums c.in_ok-value.value (c.in_ok-value.ensures q n.0 at.names n.1))))))
     c.call_on_hand.ensures.runs
+
+pub at_hand::call_two_at_hand-returns-clause-runs : goal.at_hand::call_two_at_hand-returns-clause-runs
+at_hand::call_two_at_hand-returns-clause-runs g t c =
+    let name = c.args.name.now in
+    let style_read = c.args.tree.now.integers in
+    let first = seen_word c.first-item.result in
+    let second = seen_word c.second-item.result in
+    let is = two_items c.args.words.now c.first-item.result c.second-item.result c.in-len2.len_at_least c.in-len2.len_below c.first-item.is c.second-item.is in
+    Calls.some_more c.call_on_hand.result _ _
+    (λ ended. IfRan-more ended
+    (CallsOnHand (ways g.O.Outside.goes g.O.Outside.loses) c.args.tree.now c.args.outside.now c.args.place name c.in_ok-sums.sums (c.in_ok-a.a ∷ c.in_ok-b.b ∷ []) c.call_on_hand.new.tree c.call_on_hand.new.outside)
+    (EndsFrom (ways g.O.Outside.goes g.O.Outside.loses) c.args.tree.now c.args.outside.now c.args.place (λ style. words (literal_word c.args.name.now ∷ map seen_word c.args.words.now) []) c.call_on_hand.new.tree c.call_on_hand.new.outside)
+    (λ e k q style at.
+    let n = stands (tree_of c.args.tree.now q) (tree_there c.args.tree.now q _ at.names) in
+    at_prog (ap (λ (ws : List PreparedWord). words (literal_word name ∷ map seen_word ws) []) is)
+    (k q style n.0 at n.1 (first ∷ second ∷ [])
+    (subst (λ (s : Integers). AllEnd s n.0 (first ∷ second ∷ []) c.in_ok-sums.sums (c.in_ok-a.a ∷ c.in_ok-b.b ∷ [])) at.style_is
+    (Calls.two_end style_read n.0 first second c.in_ok-a.in_first c.in_ok-b.in_second c.in_ok-sums.sums c.in_ok-a.a c.in_ok-b.b (sym c.in_ok-sums.ensures) (c.in_ok-a.ensures q n.0 at.names n.1) (c.in_ok-b.ensures q n.0 at.names n.1))))))
+    c.call_on_hand.ensures.runs
+
+pub at_hand::call_three_at_hand-returns-clause-runs : goal.at_hand::call_three_at_hand-returns-clause-runs
+at_hand::call_three_at_hand-returns-clause-runs g t c =
+    let name = c.args.name.now in
+    let style_read = c.args.tree.now.integers in
+    let first = seen_word c.first-item.result in
+    let second = seen_word c.second-item.result in
+    let third = seen_word c.third-item.result in
+    let is = three_items c.args.words.now c.first-item.result c.second-item.result c.third-item.result c.in-len3.len_at_least c.in-len3.len_below c.first-item.is c.second-item.is c.third-item.is in
+    Calls.some_more c.call_on_hand.result _ _
+    (λ ended. IfRan-more ended
+    (CallsOnHand (ways g.O.Outside.goes g.O.Outside.loses) c.args.tree.now c.args.outside.now c.args.place name c.in_ok-sums.sums (c.in_ok-a.a ∷ c.in_ok-b.b ∷ c.in_ok-c.c ∷ []) c.call_on_hand.new.tree c.call_on_hand.new.outside)
+    (EndsFrom (ways g.O.Outside.goes g.O.Outside.loses) c.args.tree.now c.args.outside.now c.args.place (λ style. words (literal_word c.args.name.now ∷ map seen_word c.args.words.now) []) c.call_on_hand.new.tree c.call_on_hand.new.outside)
+    (λ e k q style at.
+    let n = stands (tree_of c.args.tree.now q) (tree_there c.args.tree.now q _ at.names) in
+    at_prog (ap (λ (ws : List PreparedWord). words (literal_word name ∷ map seen_word ws) []) is)
+    (k q style n.0 at n.1 (first ∷ second ∷ third ∷ [])
+    (subst (λ (s : Integers). AllEnd s n.0 (first ∷ second ∷ third ∷ []) c.in_ok-sums.sums (c.in_ok-a.a ∷ c.in_ok-b.b ∷ c.in_ok-c.c ∷ [])) at.style_is
+    (Calls.ends_append style_read n.0 (first ∷ second ∷ []) (third ∷ []) (c.in_ok-a.a ∷ c.in_ok-b.b ∷ []) (c.in_ok-c.c ∷ []) c.in_ok-before.before c.in_ok-c.in_third c.in_ok-sums.sums (sym c.in_ok-sums.ensures)
+    (Calls.two_end style_read n.0 first second c.in_ok-a.in_first c.in_ok-b.in_second c.in_ok-before.before c.in_ok-a.a c.in_ok-b.b (sym c.in_ok-before.ensures) (c.in_ok-a.ensures q n.0 at.names n.1) (c.in_ok-b.ensures q n.0 at.names n.1))
+    (Calls.ends_one style_read n.0 third c.in_ok-c.in_third c.in_ok-c.c (c.in_ok-c.ensures q n.0 at.names n.1)))))))
+    c.call_on_hand.ensures.runs
+
+pub at_hand::call_four_at_hand-returns-clause-runs : goal.at_hand::call_four_at_hand-returns-clause-runs
+at_hand::call_four_at_hand-returns-clause-runs g t c =
+    let name = c.args.name.now in
+    let style_read = c.args.tree.now.integers in
+    let first = seen_word c.first-item.result in
+    let second = seen_word c.second-item.result in
+    let third = seen_word c.third-item.result in
+    let fourth = seen_word c.fourth-item.result in
+    let is = four_items c.args.words.now c.first-item.result c.second-item.result c.third-item.result c.fourth-item.result c.in-len4.len_at_least c.in-len4.len_below c.first-item.is c.second-item.is c.third-item.is c.fourth-item.is in
+    Calls.some_more c.call_on_hand.result _ _
+    (λ ended. IfRan-more ended
+    (CallsOnHand (ways g.O.Outside.goes g.O.Outside.loses) c.args.tree.now c.args.outside.now c.args.place name c.in_ok-sums.sums (c.in_ok-a.a ∷ c.in_ok-b.b ∷ c.in_ok-c.c ∷ c.in_ok-d.d ∷ []) c.call_on_hand.new.tree c.call_on_hand.new.outside)
+    (EndsFrom (ways g.O.Outside.goes g.O.Outside.loses) c.args.tree.now c.args.outside.now c.args.place (λ style. words (literal_word c.args.name.now ∷ map seen_word c.args.words.now) []) c.call_on_hand.new.tree c.call_on_hand.new.outside)
+    (λ e k q style at.
+    let n = stands (tree_of c.args.tree.now q) (tree_there c.args.tree.now q _ at.names) in
+    at_prog (ap (λ (ws : List PreparedWord). words (literal_word name ∷ map seen_word ws) []) is)
+    (k q style n.0 at n.1 (first ∷ second ∷ third ∷ fourth ∷ [])
+    (subst (λ (s : Integers). AllEnd s n.0 (first ∷ second ∷ third ∷ fourth ∷ []) c.in_ok-sums.sums (c.in_ok-a.a ∷ c.in_ok-b.b ∷ c.in_ok-c.c ∷ c.in_ok-d.d ∷ [])) at.style_is
+    (Calls.ends_append style_read n.0 (first ∷ second ∷ []) (third ∷ fourth ∷ []) (c.in_ok-a.a ∷ c.in_ok-b.b ∷ []) (c.in_ok-c.c ∷ c.in_ok-d.d ∷ []) c.in_ok-before.before c.in_ok-behind.behind c.in_ok-sums.sums (sym c.in_ok-sums.ensures)
+    (Calls.two_end style_read n.0 first second c.in_ok-a.in_first c.in_ok-b.in_second c.in_ok-before.before c.in_ok-a.a c.in_ok-b.b (sym c.in_ok-before.ensures) (c.in_ok-a.ensures q n.0 at.names n.1) (c.in_ok-b.ensures q n.0 at.names n.1))
+    (Calls.two_end style_read n.0 third fourth c.in_ok-c.in_third c.in_ok-d.in_fourth c.in_ok-behind.behind c.in_ok-c.c c.in_ok-d.d (sym c.in_ok-behind.ensures) (c.in_ok-c.ensures q n.0 at.names n.1) (c.in_ok-d.ensures q n.0 at.names n.1)))))))
+    c.call_on_hand.ensures.runs
+
+pub at_hand::call_at_hand-returns-in-len1-clause-runs : goal.at_hand::call_at_hand-returns-in-len1-clause-runs
+at_hand::call_at_hand-returns-in-len1-clause-runs g t c =
+    let rest = take (length c.args.words.now - 1) (drop 1 c.args.words.now) in
+    let name = c.in-Literal.name in
+    let seen = ap (λ (ws : List PreparedWord). words (map seen_word ws) []) (split_first c.args.words.now c.first-item.result c.in-len1-up.len_at_least c.first-item.is) ∙ ap (λ (w : WordRead). words (w ∷ map seen_word rest) []) (ap seen_word c.in-Literal.is) in
+    Calls.some_more c.call_one_at_hand.result _ _
+    (λ ended. IfRan-more ended (EndsFrom (ways g.O.Outside.goes g.O.Outside.loses) c.args.tree.now c.args.outside.now c.args.place (λ style. words (literal_word name ∷ map seen_word rest) []) c.call_one_at_hand.new.tree c.call_one_at_hand.new.outside) (EndsFrom (ways g.O.Outside.goes g.O.Outside.loses) c.args.tree.now c.args.outside.now c.args.place (λ style. words (map seen_word c.args.words.now) []) c.call_one_at_hand.new.tree c.call_one_at_hand.new.outside)
+    (λ e k q style at. at_prog seen (k q style at)))
+    c.call_one_at_hand.ensures.runs
+
+pub at_hand::call_at_hand-returns-in-len2-clause-runs : goal.at_hand::call_at_hand-returns-in-len2-clause-runs
+at_hand::call_at_hand-returns-in-len2-clause-runs g t c =
+    let rest = take (length c.args.words.now - 1) (drop 1 c.args.words.now) in
+    let name = c.in-Literal.name in
+    let seen = ap (λ (ws : List PreparedWord). words (map seen_word ws) []) (split_first c.args.words.now c.first-item.result c.in-len1-up.len_at_least c.first-item.is) ∙ ap (λ (w : WordRead). words (w ∷ map seen_word rest) []) (ap seen_word c.in-Literal.is) in
+    Calls.some_more c.call_two_at_hand.result _ _
+    (λ ended. IfRan-more ended (EndsFrom (ways g.O.Outside.goes g.O.Outside.loses) c.args.tree.now c.args.outside.now c.args.place (λ style. words (literal_word name ∷ map seen_word rest) []) c.call_two_at_hand.new.tree c.call_two_at_hand.new.outside) (EndsFrom (ways g.O.Outside.goes g.O.Outside.loses) c.args.tree.now c.args.outside.now c.args.place (λ style. words (map seen_word c.args.words.now) []) c.call_two_at_hand.new.tree c.call_two_at_hand.new.outside)
+    (λ e k q style at. at_prog seen (k q style at)))
+    c.call_two_at_hand.ensures.runs
+
+pub at_hand::call_at_hand-returns-in-len3-clause-runs : goal.at_hand::call_at_hand-returns-in-len3-clause-runs
+at_hand::call_at_hand-returns-in-len3-clause-runs g t c =
+    let rest = take (length c.args.words.now - 1) (drop 1 c.args.words.now) in
+    let name = c.in-Literal.name in
+    let seen = ap (λ (ws : List PreparedWord). words (map seen_word ws) []) (split_first c.args.words.now c.first-item.result c.in-len1-up.len_at_least c.first-item.is) ∙ ap (λ (w : WordRead). words (w ∷ map seen_word rest) []) (ap seen_word c.in-Literal.is) in
+    Calls.some_more c.call_three_at_hand.result _ _
+    (λ ended. IfRan-more ended (EndsFrom (ways g.O.Outside.goes g.O.Outside.loses) c.args.tree.now c.args.outside.now c.args.place (λ style. words (literal_word name ∷ map seen_word rest) []) c.call_three_at_hand.new.tree c.call_three_at_hand.new.outside) (EndsFrom (ways g.O.Outside.goes g.O.Outside.loses) c.args.tree.now c.args.outside.now c.args.place (λ style. words (map seen_word c.args.words.now) []) c.call_three_at_hand.new.tree c.call_three_at_hand.new.outside)
+    (λ e k q style at. at_prog seen (k q style at)))
+    c.call_three_at_hand.ensures.runs
+
+pub at_hand::call_at_hand-returns-in-len4-clause-runs : goal.at_hand::call_at_hand-returns-in-len4-clause-runs
+at_hand::call_at_hand-returns-in-len4-clause-runs g t c =
+    let rest = take (length c.args.words.now - 1) (drop 1 c.args.words.now) in
+    let name = c.in-Literal.name in
+    let seen = ap (λ (ws : List PreparedWord). words (map seen_word ws) []) (split_first c.args.words.now c.first-item.result c.in-len1-up.len_at_least c.first-item.is) ∙ ap (λ (w : WordRead). words (w ∷ map seen_word rest) []) (ap seen_word c.in-Literal.is) in
+    Calls.some_more c.call_four_at_hand.result _ _
+    (λ ended. IfRan-more ended (EndsFrom (ways g.O.Outside.goes g.O.Outside.loses) c.args.tree.now c.args.outside.now c.args.place (λ style. words (literal_word name ∷ map seen_word rest) []) c.call_four_at_hand.new.tree c.call_four_at_hand.new.outside) (EndsFrom (ways g.O.Outside.goes g.O.Outside.loses) c.args.tree.now c.args.outside.now c.args.place (λ style. words (map seen_word c.args.words.now) []) c.call_four_at_hand.new.tree c.call_four_at_hand.new.outside)
+    (λ e k q style at. at_prog seen (k q style at)))
+    c.call_four_at_hand.ensures.runs
 
 -- words in general
 

@@ -79,11 +79,26 @@ decreases-at_hand::call_named g l = 32032 * g.O.Outside.entries_left l.outside.n
 abbrev pub decreases-at_hand::call_known_on_hand : goal.decreases-at_hand::call_known_on_hand
 decreases-at_hand::call_known_on_hand g l = 32032 * g.O.Outside.entries_left l.outside.now + 32 * room (tree_of l.tree.now) + 12
 
+abbrev pub decreases-at_hand::call_named_on_hand : goal.decreases-at_hand::call_named_on_hand
+decreases-at_hand::call_named_on_hand g l = 32032 * g.O.Outside.entries_left l.outside.now + 32 * room (tree_of l.tree.now) + 13
+
 abbrev pub decreases-at_hand::call_on_hand : goal.decreases-at_hand::call_on_hand
-decreases-at_hand::call_on_hand g l = 32032 * g.O.Outside.entries_left l.outside.now + 32 * room (tree_of l.tree.now) + 13
+decreases-at_hand::call_on_hand g l = 32032 * g.O.Outside.entries_left l.outside.now + 32 * room (tree_of l.tree.now) + 14
+
+abbrev pub decreases-at_hand::call_one_at_hand : goal.decreases-at_hand::call_one_at_hand
+decreases-at_hand::call_one_at_hand g l = 32032 * g.O.Outside.entries_left l.outside.now + 32 * room (tree_of l.tree.now) + 15
+
+abbrev pub decreases-at_hand::call_two_at_hand : goal.decreases-at_hand::call_two_at_hand
+decreases-at_hand::call_two_at_hand g l = 32032 * g.O.Outside.entries_left l.outside.now + 32 * room (tree_of l.tree.now) + 15
+
+abbrev pub decreases-at_hand::call_three_at_hand : goal.decreases-at_hand::call_three_at_hand
+decreases-at_hand::call_three_at_hand g l = 32032 * g.O.Outside.entries_left l.outside.now + 32 * room (tree_of l.tree.now) + 15
+
+abbrev pub decreases-at_hand::call_four_at_hand : goal.decreases-at_hand::call_four_at_hand
+decreases-at_hand::call_four_at_hand g l = 32032 * g.O.Outside.entries_left l.outside.now + 32 * room (tree_of l.tree.now) + 15
 
 abbrev pub decreases-at_hand::call_at_hand : goal.decreases-at_hand::call_at_hand
-decreases-at_hand::call_at_hand g l = 32032 * g.O.Outside.entries_left l.outside.now + 32 * room (tree_of l.tree.now) + 14
+decreases-at_hand::call_at_hand g l = 32032 * g.O.Outside.entries_left l.outside.now + 32 * room (tree_of l.tree.now) + 16
 
 abbrev pub decreases-words::call_general : goal.decreases-words::call_general
 decreases-words::call_general g l = 32032 * g.O.Outside.entries_left l.outside.now + 32 * room (tree_of l.tree.now) + 16
