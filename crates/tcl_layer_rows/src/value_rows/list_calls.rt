@@ -33,6 +33,15 @@ fn element(alloc: Global, list: &List, index: usize) -> Answer {
     show(alloc, &list.get(index)?)
 }
 
+/// Whether the element at a place is this text.
+fn is_at(alloc: Global, list: &List, index: usize, value: &Value) -> Answer {
+    if index >= list.len() {
+        return text(alloc, "no element");
+    }
+    let wanted = value.text(alloc)?;
+    yes_or_no(alloc, list.is_at(index, wanted.as_str()))
+}
+
 /// Puts a value in the place of an element.
 fn set(alloc: Global, list: &mut List, index: usize, value: &Value) -> Answer {
     if index >= list.len() {
@@ -56,6 +65,7 @@ pub(crate) fn of_list(alloc: Global, verb: &str, list: &mut List, words: &[Value
         [index] if verb == "get" => element(alloc, list, number_of(alloc, index)?),
         [value] if verb == "push" => done(alloc, list.push(alloc, value.clone()?)),
         [index, value] if verb == "set" => set(alloc, list, number_of(alloc, index)?, value),
+        [index, value] if verb == "is_at" => is_at(alloc, list, number_of(alloc, index)?, value),
         _ => no_call(alloc),
     }
 }

@@ -22,6 +22,14 @@ fn number(alloc: Global, style: Integers, own: &mut Value) -> Answer {
     }
 }
 
+/// The number that a value is kept as, if it is one.
+fn kept_number(alloc: Global, own: &Value) -> Answer {
+    match own.number() {
+        Some(number) => Ok(format!(in alloc; "{number}")?),
+        None => text(alloc, "none"),
+    }
+}
+
 /// How many elements the list has that a value is read as.
 fn list_len(alloc: Global, own: &mut Value) -> Answer {
     match own.as_list(alloc) {
@@ -53,6 +61,7 @@ fn looked(alloc: Global, style: Integers, verb: &str, own: &mut Value) -> Answer
         "text" => show(alloc, own),
         "text_len" => count(alloc, own.text_len()),
         "as_int" => number(alloc, style, own),
+        "number" => kept_number(alloc, own),
         "as_list" => list_len(alloc, own),
         "as_dict" => dict_len(alloc, own),
         "as_script" => script_len(alloc, own),
