@@ -35,7 +35,6 @@ use tcl_value::value::Value;
 ///
 /// # Errors
 /// Why its text is no expression; want of memory.
-#[inline(never)]
 pub fn read_expression(
     tree: &Tree,
     alloc: Global,
@@ -59,7 +58,6 @@ pub fn read_expression(
 /// The value of an expression that was read, where each of its operands is a literal or a variable
 /// of the current frame, and all of them are integers, and it is one that fits 64 bits. This takes
 /// no memory.
-#[inline(never)]
 pub fn number_at(tree: &Tree, place: Place, style: Integers, kept: &ExprTree) -> Option<i64>
     ensures { IfSome result (λ n. (p : Path) (m : core.Node Own) → Names tree.now place p →
         tree_of tree.now p ≡ Some m →
@@ -89,7 +87,6 @@ pub fn operator_failure(alloc: Global, error: ApplyError) -> Interruption
 ///
 /// # Errors
 /// The refusal of an operator; want of memory.
-#[inline(never)]
 pub fn next_part<'t>(
     evaluation: &mut Evaluation,
     alloc: Global,
@@ -109,7 +106,6 @@ pub fn next_part<'t>(
 }
 
 /// What an expression of this value comes to.
-#[inline(never)]
 pub fn settle(alloc: Global, style: Integers, value: Value) -> Result<Value, Interruption>
     ensures { IfEnded result (EndsBy (settles style value)) }
 {

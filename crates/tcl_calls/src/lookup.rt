@@ -63,7 +63,6 @@ fn standing<'t>(tree: &'t Tree, place: Place, word: &Value) -> Option<&'t Comman
 
 /// The built-in command that a word names in the interpreter, where it stands at the place that the
 /// word keeps. This takes no memory.
-#[inline(never)]
 pub fn builtin_named(tree: &Tree, place: Place, word: &Value) -> Option<Builtin>
     ensures { IfSome result (λ builtin. (p : Path) (n : core.Node Own) → Names tree.now place p →
         tree_of tree.now p ≡ Some n → found n word.now ≡ Ok (variant.Builtin builtin)) }

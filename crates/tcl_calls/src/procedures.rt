@@ -27,6 +27,7 @@ ghost use Rattle.tcl_calls.specs.Procedures.{IsBoundTo, TooLongBound, Enters, st
 use std::alloc::{AllocError, Global};
 use tcl_frames::fault::FrameError;
 use tcl_frames::frames::Frames;
+use tcl_frames::variable_name::VariableName;
 use tcl_lists::commands::list;
 use tcl_run::failure::{refused, wrong_args};
 use tcl_run::interruption::Interruption;
@@ -94,7 +95,8 @@ fn bind_word(
     ensures short { OnOk result (fits word.now ≡ true) }
     ensures memory { IfErr result (λ i. i ≡ Memory) }
 {
-    match frames.set(alloc, name, known_short(word.clone()?)) {
+    let name = VariableName::new(name.clone()?);
+    match frames.set_near(alloc, &name, known_short(word.clone()?)) {
         Ok(()) => Ok(()),
         Err(FrameError::Fault(_)) => Ok(()),
         Err(FrameError::Memory) => Err(Interruption::Memory),
@@ -180,7 +182,6 @@ fn words_of_call(alloc: Global, word: &Value, args: &[Value]) -> Result<Vec<Valu
 ///
 /// # Errors
 /// 122 of a list of arguments, where nothing has changed; want of memory.
-#[inline(never)]
 pub fn enter(
     tree: &mut Tree,
     alloc: Global,
@@ -211,7 +212,6 @@ pub fn enter(
 }
 
 /// Takes the frame on top off, where the interpreter isn't gone.
-#[inline(never)]
 pub fn leave_frame(tree: &mut Tree, place: Place)
     requires { (p : Path) × (d : ℕ) × Holds tree.old place p d }
     ensures left { (p : Path) (d : ℕ) → Holds tree.old place p d → tree_of tree.new

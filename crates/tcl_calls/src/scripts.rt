@@ -64,7 +64,6 @@ fn full_word(alloc: Global, word: &Value) -> Result<Option<Value>, AllocError>
 ///
 /// # Errors
 /// That it is too long for a value; want of memory.
-#[inline(never)]
 pub fn script_of(alloc: Global, words: &[Value]) -> Result<Value, Interruption>
     ensures whole { IfOk result
         (λ text. (text ≡ concatenated words.now) × (fits (concatenated words.now) ≡ true)) }

@@ -12,7 +12,6 @@ use tcl_value::value::Value;
 ///
 /// # Errors
 /// Every other end, which is the loop's own.
-#[inline(never)]
 pub fn goes_on(ended: Result<Value, Interruption>) -> Result<bool, Interruption>
     ensures { Turns after_body ended result }
 {
@@ -36,7 +35,6 @@ pub fn goes_on(ended: Result<Value, Interruption>) -> Result<bool, Interruption>
 ///
 /// # Errors
 /// Every other end, which is the loop's own, a `continue` too.
-#[inline(never)]
 pub fn turns_on(ended: Result<Value, Interruption>) -> Result<bool, Interruption>
     ensures { Turns after_next ended result }
 {

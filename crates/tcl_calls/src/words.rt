@@ -41,7 +41,6 @@ pub struct OpenElement {
 }
 
 /// What a script gives whose commands are done: its last result, or its fault.
-#[inline(never)]
 pub fn finish(alloc: Global, fault: Option<Fault>, last: Value) -> Result<Value, Interruption>
     ensures { IfEnded result (EndsBy (over fault last)) }
 {
@@ -52,7 +51,6 @@ pub fn finish(alloc: Global, fault: Option<Fault>, last: Value) -> Result<Value,
 }
 
 /// Adds the words that a word's text stands for: the text, or its elements as a list.
-#[inline(never)]
 pub fn spread(
     alloc: Global,
     expand: bool,
@@ -111,7 +109,6 @@ pub fn append(alloc: Global, text: &mut String, more: &str) -> Result<(), Interr
 }
 
 /// Adds a value to a word's text.
-#[inline(never)]
 pub fn append_value(alloc: Global, text: &mut String, value: &Value) -> Result<(), Interruption>
     ensures added { OnOk result ((fits (string_bytes text.old ++ value.now) ≡ true) ×
         (string_bytes text.new ≡ string_bytes text.old ++ value.now)) }

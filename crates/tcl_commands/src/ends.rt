@@ -144,6 +144,7 @@ fn options_failure(alloc: Global, error: OptionsError) -> Interruption
 ///
 /// # Errors
 /// That completion, also where it is an ordinary one; 221; want of memory.
+#[inline(always)]
 pub fn returns(
     tree: &mut Tree,
     alloc: Global,

@@ -129,7 +129,6 @@ fn call_named_on_hand<O: Outside>(
 /// sum that isn't counted yet. It is looked up once, before it is counted. Where it isn't found so,
 /// nothing has happened.
 #[cycle(eval)]
-#[inline(never)]
 fn call_on_hand<O: Outside>(
     tree: &mut Tree,
     alloc: Global,
@@ -161,7 +160,6 @@ fn call_on_hand<O: Outside>(
 /// Calls the command that a literal names with one other word, if that is at hand. Where it isn't,
 /// nothing has happened.
 #[cycle(eval)]
-#[inline(never)]
 fn call_one_at_hand<O: Outside>(
     tree: &mut Tree,
     alloc: Global,
@@ -187,7 +185,6 @@ fn call_one_at_hand<O: Outside>(
 
 /// The same of two other words, of which at most one is a sum.
 #[cycle(eval)]
-#[inline(never)]
 fn call_two_at_hand<O: Outside>(
     tree: &mut Tree,
     alloc: Global,

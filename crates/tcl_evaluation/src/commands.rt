@@ -164,7 +164,6 @@ pub(crate) fn call_builtin<O: Outside>(
 /// 241 of its own form; 122 of a list of arguments; those of the body, as they leave a procedure;
 /// want of memory.
 #[cycle(eval)]
-#[inline(never)]
 fn call_procedure<O: Outside>(
     tree: &mut Tree,
     alloc: Global,

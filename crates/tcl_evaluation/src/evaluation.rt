@@ -163,7 +163,6 @@ fn eval_bracket<O: Outside>(
 /// Evaluates a script's commands one after another, up to the first without an ordinary result, and
 /// then its fault.
 #[cycle(eval)]
-#[inline(never)]
 fn eval_commands<O: Outside>(
     tree: &mut Tree,
     alloc: Global,

@@ -65,7 +65,6 @@ fn compute<O: Outside>(
 /// # Errors
 /// 111 to 113 and 212 to 216 of the operands; those of what is substituted; want of memory.
 #[cycle(eval)]
-#[inline(never)]
 fn expression<O: Outside>(
     tree: &mut Tree,
     alloc: Global,
@@ -90,7 +89,6 @@ fn expression<O: Outside>(
 
 /// Whether a condition that was read holds.
 #[cycle(eval)]
-#[inline(never)]
 fn condition<O: Outside>(
     tree: &mut Tree,
     alloc: Global,
@@ -148,7 +146,6 @@ pub fn expr<O: Outside>(
 /// An `if` with one condition: evaluates its body where it holds, and the last body where it
 /// doesn't.
 #[cycle(eval)]
-#[inline(never)]
 fn if_one<O: Outside>(
     tree: &mut Tree,
     alloc: Global,
@@ -182,7 +179,6 @@ fn if_one<O: Outside>(
 /// # Errors
 /// 241; those of the conditions, as of `expr`; those of the body; want of memory.
 #[cycle(eval)]
-#[inline(never)]
 pub fn if_first<O: Outside>(
     tree: &mut Tree,
     alloc: Global,
@@ -238,7 +234,6 @@ fn if_many<O: Outside>(
 /// A turn of a loop with a condition: whether the loop goes on. Where the condition holds, the turn
 /// is counted and the body runs, whose script was read before.
 #[cycle(eval)]
-#[inline(never)]
 fn turn<O: Outside>(
     tree: &mut Tree,
     alloc: Global,

@@ -20,6 +20,7 @@ use tcl_tree::tree::{Place, Tree};
 ///
 /// # Errors
 /// 308, of the level or of the step; want of memory for its error.
+#[inline]
 pub fn count_sum<O: Outside>(
     tree: &mut Tree,
     alloc: Global,

@@ -125,7 +125,7 @@ fn call_general<O: Outside>(
     ensures here { OnCompletion result (IsHere tree.old tree.new place) }
     ensures keeps { Keeps O.entries_left tree.old tree.new outside.old outside.new }
 {
-    let mut texts = Words::with_capacity(alloc, words.len())?;
+    let mut texts = Words::new(alloc);
     'words: for word in words {
         let text = on_ok(eval_word(tree, alloc, outside, place, word))?;
         spread(alloc, expands(word), text, &mut texts)?;

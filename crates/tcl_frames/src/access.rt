@@ -127,6 +127,7 @@ fn one_element(alloc: Global, key: &str, value: Value) -> Result<NameMap<Value>,
 }
 
 /// The variable that a value makes where there is none.
+#[inline(always)]
 pub fn new_variable(
     alloc: Global,
     part: Part<'_>,

@@ -208,6 +208,7 @@ impl<V: Drop> FewNames<V> {
     ///
     /// # Errors
     /// Want of memory, which leaves the names as they were.
+    #[inline(always)]
     pub fn push(&mut self, name: Text, value: V) -> Result<(), AllocError>
         requires { lookup (bytes_eq name) self.old ≡ None }
         ensures pushed { OnOk result (self.new ≡ insert_entry bytes_eq self.old name value) }
@@ -221,6 +222,7 @@ impl<V: Drop> FewNames<V> {
     ///
     /// # Errors
     /// Want of memory, which leaves the names as they were.
+    #[inline(always)]
     pub fn insert(&mut self, name: Text, value: V) -> Result<(), AllocError>
         ensures inserted { OnOk result (self.new ≡ insert_entry bytes_eq self.old name value) }
         ensures unchanged { OnErr result (self.new ≡ self.old) }

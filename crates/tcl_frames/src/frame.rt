@@ -55,6 +55,7 @@ fn unread(part: Part<'_>, name: &Text) -> FrameError
 
 /// Gives a name that isn't there this variable. Where the name is what is told, their text is
 /// shared.
+#[inline(always)]
 fn insert_told(
     variables: &mut NameMap<Variable>,
     alloc: Global,

@@ -368,6 +368,7 @@ impl Frames {
     }
 
     /// Changes what a name stands for.
+    #[inline(always)]
     fn change(&mut self, alloc: Global, name: &Text, change: Change) -> Result<(), FrameError>
         ensures ok { OnOk result
             (with_frames self.old (change_named change self.old.frames name.now)
@@ -540,6 +541,7 @@ impl Frames {
     ///
     /// # Errors
     /// Want of memory.
+    #[inline(always)]
     pub fn push(&mut self, alloc: Global, words: Vec<Value>) -> Result<(), AllocError>
         ensures ok { OnOk result (self.new ≡ pushed self.old words.items) }
         ensures unchanged { OnErr result (self.new ≡ self.old) }

@@ -150,6 +150,7 @@ impl<V> NameMap<V> {
 
 impl<V: Drop> NameMap<V> {
     /// Goes over to hashes where one name more would be too many to look through.
+    #[inline(always)]
     fn make_room(&mut self, alloc: Global) -> Result<(), AllocError>
         ensures { self.new ≡ self.old }
     {
@@ -201,6 +202,7 @@ impl<V: Drop> NameMap<V> {
     ///
     /// # Errors
     /// Want of memory, which leaves the map as it was.
+    #[inline(always)]
     pub fn insert_shared(&mut self, alloc: Global, name: &Text, value: V) -> Result<(), AllocError>
         ensures inserted { OnOk result (self.new ≡ insert_entry bytes_eq self.old name.now value) }
         ensures unchanged { OnErr result (self.new ≡ self.old) }
@@ -249,6 +251,7 @@ impl<V: Drop> NameMap<V> {
 
     /// The empty map in the room of this one. Where this one finds its names by their hashes there
     /// is none, since a table may be large. This takes no memory.
+    #[inline(always)]
     pub fn emptied(self) -> Option<NameMap<V>>
         ensures { IfSome result (λ map. map ≡ []) }
     {

@@ -39,6 +39,7 @@ impl Interruption {
     ghost use Rattle.tcl_run.specs.Ends.{Interrupts};
 
     /// An evaluation that completed so, or that memory was wanted to say it.
+    #[inline(always)]
     pub fn of_completion(alloc: Global, completion: Completion) -> Interruption
         ensures { Interrupts result (λ e. e ≡ Completed (completion_of completion)) }
     {

@@ -136,6 +136,7 @@ pub fn read_by_word(
 
 /// The text of an ordinary completion, on which its caller goes on; anything else is the caller's
 /// own end.
+#[inline]
 pub fn on_ok(ended: Result<Value, Interruption>) -> Result<Value, Interruption>
     ensures text { IfOk result (IsText ended) }
     ensures same { IfErr result (λ i. ended ≡ Err i) }

@@ -41,6 +41,7 @@ pub(crate) enum Element {
 
 impl Drop for Element {
     #[cycle(element)]
+    #[inline(always)]
     fn drop(self) {
         match self {
             Element::Text(_text) => {}
@@ -85,6 +86,7 @@ impl Element {
     }
 
     /// How many bytes write it in a list, where it is the first element or another.
+    #[inline(always)]
     pub(crate) fn written_len(&self, first: bool) -> usize
         requires { IsElement self.now }
         ensures len { result ≡ length (write_element first (element_text self.now)) }

@@ -249,6 +249,7 @@ impl Items {
     ///
     /// # Errors
     /// [`ValueError::TooLong`] exactly where it would weigh more; want of memory.
+    #[inline(always)]
     fn push_light(&mut self, element: Element, most: u128) -> Result<(), ValueError>
         requires { IsElement element }
         ensures pushed { OnOk result (self.new ≡ self.old ++ element_text element ∷ []) }

@@ -165,12 +165,24 @@ pub struct Value {
 }
 
 impl Drop for Value {
+    #[inline]
     fn drop(self) {
-        let Value {
-            form: _form,
-            kept: _kept,
-        } = self;
+        let Value { form, kept } = self;
+        drop(kept);
+        match form {
+            Form::Empty => {}
+            Form::Number(_n) => {}
+            Form::Text(text) => let_go(text),
+            Form::List(_items) => {}
+            Form::Dict(_entries) => {}
+        }
     }
+}
+
+/// Lets a text go. It isn't inlined, so that the end of a value that shares nothing costs little.
+#[inline(never)]
+fn let_go(text: Text) {
+    let _text = text;
 }
 
 impl Model for Value {
@@ -256,6 +268,7 @@ impl Value {
     ///
     /// # Errors
     /// Want of memory.
+    #[inline]
     pub fn text(&self, alloc: Global) -> Result<Text, AllocError>
         ensures { IfOk result (λ text. text ≡ self.now) }
     {
@@ -390,6 +403,7 @@ impl Value {
     /// # Errors
     /// [`IntegerFault`]: 111 where the text is no integer text, 112 where the number doesn't fit 64
     /// bits.
+    #[inline(always)]
     pub fn int(&self, style: Integers) -> Result<i64, IntegerFault>
         ensures { result ≡ int_of style self.now }
     {
@@ -407,6 +421,7 @@ impl Value {
     ///
     /// # Errors
     /// Those of [`Value::int`].
+    #[inline(always)]
     pub fn as_int(&mut self, style: Integers) -> Result<i64, IntegerFault>
         ensures read { result ≡ int_of style self.old }
         ensures text { self.new ≡ self.old }
@@ -683,6 +698,7 @@ impl Default for Value {
 impl Clone for Value {
     ghost is_clone = { λ x y. y ≡ x };
 
+    #[inline]
     fn clone(&self) -> Result<Value, AllocError> {
         let form = self.form.clone()?;
         let kept = self.kept.clone()?;

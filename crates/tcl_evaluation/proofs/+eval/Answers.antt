@@ -597,30 +597,22 @@ words::call_words-returns-clause-keeps g t c = keeps-trans c.call_at_hand.ensure
 
 -- any number of words
 
-pub words::call_general-returns-in_err-texts-clause-runs : goal.words::call_general-returns-in_err-texts-clause-runs
-words::call_general-returns-in_err-texts-clause-runs g t c =
-    let p = err_from_is_err_and c.from_residual.result c.from_residual.ensures.1 in
-    memory_err c.from_residual.result p.0 _ _ p.1 p.2 (λ q style at. stopped)
-
-pub words::call_general-returns-in_err-texts-clause-here : goal.words::call_general-returns-in_err-texts-clause-here
-words::call_general-returns-in_err-texts-clause-here g t c = unmoved c.from_residual.result c.args.tree.now c.args.place
-
 pub words::call_general-eval_word-requires : goal.words::call_general-eval_word-requires
 words::call_general-eval_word-requires g t c κs within = (search rules, (search rules, still_running c.args.tree.now c.words.tree c.args.place c.words.invariant.here c.requires.running))
 
 pub words::call_general-returns-in_err-text-clause-runs : goal.words::call_general-returns-in_err-text-clause-runs
 words::call_general-returns-in_err-text-clause-runs g t c =
     let item = item_on c.args.words.now c.words.word-index c.word-item.result c.words-test.true c.word-item.is in
-    let p = err_from_is_err_and c.from_residual-in_err-text.result c.from_residual-in_err-text.ensures.1 in
-    ran_err c.from_residual-in_err-text.result c.in_err-text.field-0.0 p.0 _ _ _ p.1 p.2
+    let p = err_from_is_err_and c.from_residual.result c.from_residual.ensures.1 in
+    ran_err c.from_residual.result c.in_err-text.field-0.0 p.0 _ _ _ p.1 p.2
     (stays_of c.eval_word.result c.in_err-text.field-0.0 (EndsFrom (ways g.O.Outside.goes g.O.Outside.loses) c.words.tree c.words.outside c.args.place (λ style. parts (seen_word c.word-item.result).parts [] []) c.eval_word.new.tree c.eval_word.new.outside) c.in_err-text.ensures.same c.eval_word.ensures.runs c.in_err-text.ensures.stays)
     (λ e h q style at. c.words.invariant.leads q style at _ _ _ (at_prog (ap (λ (ws : List PreparedWord). words (map seen_word ws) c.words.texts.items) item)
     (Steps.word_stays style (seen_word c.word-item.result) _ c.words.texts.items e h.1 (h.0 q style (still_at c.args.tree.now c.words.tree c.args.place q style c.words.invariant.here at)))))
 
 pub words::call_general-returns-in_err-text-clause-here : goal.words::call_general-returns-in_err-text-clause-here
 words::call_general-returns-in_err-text-clause-here g t c =
-    let p = err_from_is_err_and c.from_residual-in_err-text.result c.from_residual-in_err-text.ensures.1 in
-    here_passed c.from_residual-in_err-text.result c.eval_word.result c.in_err-text.field-0.0 p.0 c.args.tree.now c.words.tree c.eval_word.new.tree c.args.place p.1 p.2 c.in_err-text.ensures.same c.words.invariant.here c.eval_word.ensures.here
+    let p = err_from_is_err_and c.from_residual.result c.from_residual.ensures.1 in
+    here_passed c.from_residual.result c.eval_word.result c.in_err-text.field-0.0 p.0 c.args.tree.now c.words.tree c.eval_word.new.tree c.args.place p.1 p.2 c.in_err-text.ensures.same c.words.invariant.here c.eval_word.ensures.here
 
 pub words::call_general-returns-in_err-text-clause-keeps : goal.words::call_general-returns-in_err-text-clause-keeps
 words::call_general-returns-in_err-text-clause-keeps g t c = keeps-trans c.words.invariant.keeps c.eval_word.ensures.keeps

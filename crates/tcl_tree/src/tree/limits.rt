@@ -110,6 +110,7 @@ impl Tree {
     /// Ends the evaluation that began last in the interpreter, so that it and all above it are one
     /// level less deep. One that is gone, and in which none is in progress any more, is left no
     /// longer. This takes no memory.
+    #[inline]
     pub fn unnest(&mut self, place: Place)
         requires holds { (p : List (List ℕ)) × (d : ℕ) × Holds self.old place p d }
         requires innermost { IsInnermost (held_of self.old) place.key }
