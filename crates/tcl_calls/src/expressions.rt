@@ -1,5 +1,6 @@
 //! Expressions that commands read, and what their values come to.
 ghost use Rattle.std.specs.Prelude.{◌≡◌, ◌++◌, ◌∷◌, ◌-◌, [], Some, IfOk, IfErr, IfSome, length};
+ghost use Rattle.std.specs.Prelude.{true};
 ghost use Rattle.tcl_core.specs.Paths.{Path};
 ghost use Rattle.tcl_core.specs.Trees as core;
 ghost use Rattle.tcl_expr.specs.Expressions.{expression_of};
@@ -8,12 +9,15 @@ ghost use Rattle.tcl_expression_evaluation.specs.Steps.{from};
 ghost use Rattle.tcl_expression_evaluation.specs.AtHand.{IsNumberAtHand};
 ghost use Rattle.tcl_expression_evaluation.specs.Apply.{truth};
 ghost use Rattle.tcl_expression_evaluation.specs.Messages.{message_of as operator_message};
+ghost use Rattle.tcl_language.specs.Instructions.{fits};
+ghost use Rattle.tcl_language.specs.Words.{concat as concatenated};
 ghost use Rattle.tcl_run.specs.Ends.{Gave, IfEnded, Interrupts, IsFailure};
 ghost use Rattle.tcl_tree.specs.Own.{Own};
 ghost use Rattle.tcl_tree.specs.TreeOf.{tree_of, Names};
 ghost use Rattle.tcl_calls.specs.Expressions.{GivesPart, IsKept, IsNearer, OperatorTells, settles};
 ghost use Rattle.tcl_calls.specs.Words.{EndsBy};
 
+use crate::scripts::{hand_place, is_full_word, script_of};
 use std::alloc::Global;
 use std::rc::Rc;
 use tcl_expr::fault::ExprError;
@@ -53,6 +57,34 @@ pub fn read_expression(
         }
         Err(ExprError::Memory) => Err(Interruption::Memory),
     }
+}
+
+/// The expression that the words of an `expr` are put together to, if they are one. Where memory is
+/// wanting, none.
+pub fn expression_of_words(
+    tree: &Tree,
+    alloc: Global,
+    style: Integers,
+    words: &[Value],
+) -> Option<Rc<ExprTree>>
+    ensures short { IfSome result (λ _. fits (concatenated words.now) ≡ true) }
+    ensures read { IfSome result (λ kept. IsKept style (concatenated words.now) kept.value) }
+{
+    if let [word] = words {
+        if is_full_word(word) {
+            return read_expression(tree, alloc, style, word).ok();
+        }
+    }
+    let Ok(text) = script_of(alloc, words) else {
+        return None;
+    };
+    let Ok(kept) = read_expression(tree, alloc, style, &text) else {
+        return None;
+    };
+    if let [first, ..] = words {
+        hand_place(&text, first);
+    }
+    Some(kept)
 }
 
 /// The value of an expression that was read, where each of its operands is a literal or a variable

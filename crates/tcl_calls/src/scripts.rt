@@ -46,6 +46,17 @@ fn has_full_ends(text: &str) -> bool
     is_past_white(first) && is_past_white(last)
 }
 
+/// Whether a single word is put together to itself, told at a glance.
+pub(crate) fn is_full_word(word: &Value) -> bool
+    ensures { IsTrue result → (concatenated (word.now ∷ []) ≡ word.now) ×
+        (fits (concatenated (word.now ∷ [])) ≡ true) }
+{
+    match word.as_text() {
+        Some(text) => text.len() <= MOST_BYTES && has_full_ends(text.as_str()),
+        None => false,
+    }
+}
+
 /// What a single word is put together to, where it is the word itself at a glance.
 fn full_word(alloc: Global, word: &Value) -> Result<Option<Value>, AllocError>
     ensures { IfOk result (λ found. IfSome found (λ script.

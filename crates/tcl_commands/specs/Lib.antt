@@ -14,4 +14,5 @@ pub mod Changed
 pub mod Changes
 pub mod Exiting
 pub mod Kinds
+pub mod Named
 pub mod Subcommands

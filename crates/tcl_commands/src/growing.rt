@@ -182,7 +182,7 @@ fn grow_near(
 }
 
 /// Makes a variable of the interpreter that the place names grow.
-fn grow_variable(
+pub(crate) fn grow_variable(
     tree: &mut Tree,
     alloc: Global,
     place: Place,

@@ -15,6 +15,7 @@ pub mod growing;
 pub mod inspection;
 pub mod links;
 pub mod lists;
+pub mod named;
 mod naming;
 pub mod plain;
 mod procedures;

@@ -18,9 +18,10 @@ ghost use Rattle.tcl_commands.specs.Steps.{Steps};
 use std::alloc::{AllocError, Global};
 use tcl_frames::fault::{FrameError, FrameFault};
 use tcl_frames::frames::Frames;
+use tcl_frames::variable_name::VariableName;
 use tcl_run::failure::failure;
 use tcl_run::interruption::Interruption;
-use tcl_run::steps::{frame_failure, write_by_word};
+use tcl_run::steps::{frame_failure, write_by_word, write_named};
 use tcl_text::integer::{IntegerFault, Integers, not_integer_message, too_large_message};
 use tcl_text::text::Text;
 use tcl_tree::tree::{Place, Tree};
@@ -52,6 +53,22 @@ pub(crate) fn set_variable(
     ensures level { IsLevel tree.old tree.new }
 {
     write_by_word(tree, alloc, place, name, value)
+}
+
+/// Sets the variable of this name, in less time where it stands where it was found last.
+pub(crate) fn set_variable_near(
+    tree: &mut Tree,
+    alloc: Global,
+    place: Place,
+    name: &VariableName,
+    value: Value,
+) -> Result<(), Interruption>
+    requires { (p : Path) × Names tree.old place p }
+    ensures set { Steps tree.old place
+        (λ rest style. sets name.now value (rest style)) tree.new result }
+    ensures level { IsLevel tree.old tree.new }
+{
+    write_named(tree, alloc, place, name, value)
 }
 
 /// Makes a local name of the current level a link to what another name is at a level.

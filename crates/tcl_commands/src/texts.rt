@@ -18,7 +18,10 @@ use tcl_value::value::Value;
 use tcl_words::refusal::Refusal;
 
 /// What `string` gives.
-fn string_value(alloc: Global, style: Integers, args: &[Value]) -> Result<Value, Refusal>
+///
+/// # Errors
+/// Those of `string`; want of memory.
+pub fn string_value(alloc: Global, style: Integers, args: &[Value]) -> Result<Value, Refusal>
     ensures { Gives (λ value. value) result (string_of style args.now) }
 {
     let texts = texts_of(alloc, args)?;

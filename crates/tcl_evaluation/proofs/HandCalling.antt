@@ -20,7 +20,7 @@ use Rattle.tcl_run.specs.Runs.{Proceeds, Ways}
 use Rattle.tcl_run.proofs.Proceeding.{at_prog, at_reply, completed}
 use Rattle.tcl_text.specs.declared.integer.Integers.{Integers}
 use Rattle.tcl_tree.specs.Own.{Own}
-use Rattle.tcl_evaluation.specs.Hands.{AllEnd, AllStand, EndsAs, IsSum, PartStands, PartsStand, StandsFor, one_of}
+use Rattle.tcl_evaluation.specs.Hands.{AllEnd, AllStand, EndsAs, IsCounted, PartStands, PartsStand, StandsFor, one_of}
 use Rattle.tcl_evaluation.specs.Scripts.{read_so}
 use Rattle.tcl_evaluation.proofs.Standing.{literal_parts_stand}
 use Rattle.tcl_evaluation.proofs.Steps.{literal_goes, script_goes, script_stays, single_goes, variable_goes, within_fits, word_stays}
@@ -78,13 +78,17 @@ module _ {S : Type 0} {ways : Ways S} (style : Integers) where
 
   -- ## The words of a call
 
+  pub words_go : {T V : Tree Own} {o z : S} {p : Path} {n : Node Own} {r : Ending} (ws : List WordRead) (ts : List (List ℕ)) → T p ≡ Some n → AllStand n.own.chain.frames ws ts →
+      Proceeds ways (language style) T o p (words [] ts) V z r → Proceeds ways (language style) T o p (words ws []) V z r
+  words_go ws ts there h t = at_prog (ap (λ (x : List WordRead). words x []) (sym (append-nil ws))) (all_stand ws [] [] ts there h t)
+
   pub plain_goes : {T V : Tree Own} {o z : S} {p : Path} {n : Node Own} {r : Ending} (ws : List WordRead) (ts : List (List ℕ)) → T p ≡ Some n → AllEnd style n ws false ts →
       Proceeds ways (language style) T o p (words [] ts) V z r → Proceeds ways (language style) T o p (words ws []) V z r
-  plain_goes {n = n} ws ts there h t = at_prog (ap (λ (x : List WordRead). words x []) (sym (append-nil ws))) (all_stand ws [] [] ts there (none_sums style n ws ts h) t)
+  plain_goes {n = n} ws ts there h t = words_go ws ts there (none_sums style n ws ts h) t
 
   -- a sum among them is counted, which changes no own part
   pub sum_goes : {T U V : Tree Own} {o u z : S} {p : Path} {n m : Node Own} {r : Ending} (ws : List WordRead) (before ts : List (List ℕ)) → T p ≡ Some n → AllEnd style n ws true ts →
-      ((inner text : List ℕ) → IsSum style n (read_script inner) text → Proceeds ways (language style) T o p (read_so (read_script inner)) U u (Some (Completed (ok text)))) →
+      ((inner text : List ℕ) → IsCounted style n (read_script inner) text → Proceeds ways (language style) T o p (read_so (read_script inner)) U u (Some (Completed (ok text)))) →
       U p ≡ Some m → m.own ≡ n.own → Proceeds ways (language style) U u p (words [] (before ++ ts)) V z r → Proceeds ways (language style) T o p (words ws before) V z r
   sum_goes [] before [] there h s still same t = let clash : true ≡ false = h in cc
   sum_goes [] before (x ∷ ts) there h s still same t = elim h [ ]
@@ -100,7 +104,7 @@ module _ {S : Type 0} {ways : Ways S} (style : Integers) where
 
   -- and it ends the command
   pub sum_ends : {T U : Tree Own} {o u : S} {p : Path} {n : Node Own} (ws : List WordRead) (before ts : List (List ℕ)) (e : Ending) → T p ≡ Some n → AllEnd style n ws true ts → Stays e →
-      ((inner text : List ℕ) → IsSum style n (read_script inner) text → Proceeds ways (language style) T o p (read_so (read_script inner)) U u e) → Proceeds ways (language style) T o p (words ws before) U u e
+      ((inner text : List ℕ) → IsCounted style n (read_script inner) text → Proceeds ways (language style) T o p (read_so (read_script inner)) U u e) → Proceeds ways (language style) T o p (words ws before) U u e
   sum_ends [] before [] e there h stays s = let clash : true ≡ false = h in cc
   sum_ends [] before (x ∷ ts) e there h stays s = elim h [ ]
   sum_ends (w ∷ ws) before [] e there h stays s = elim h [ ]

@@ -15,7 +15,7 @@ use Rattle.tcl_tree.specs.Own.{Own}
 use Rattle.tcl_tree.specs.TreeOf.{tree_of, marks_of}
 use Rattle.tcl_tree.specs.declared.tree.Tree.{Tree as Table}
 use Rattle.tcl_tree.specs.declared.tree.Place.{Place as TablePlace}
-use Rattle.tcl_evaluation.specs.Hands.{IsSum}
+use Rattle.tcl_evaluation.specs.Hands.{IsCounted}
 use Rattle.tcl_evaluation.proofs.Steps.{EndsFrom}
 
 -- who is there, in use or not
@@ -31,6 +31,6 @@ acts_proceeds ways t u o place program r acts = ran r (λ e. (p : Path) (style :
 pub unchanged_runs : {S : Type 0} (ways : Ways S) (t u v : Table) (o w z : S) (place : TablePlace) (program : Integers → Program) (r : Result Text Interruption) → u ≡ t → w ≡ o → ProceedsIn ways u w place program v z r → ProceedsIn ways t o place program v z r
 unchanged_runs ways t u v o w z place program r e f h = subst (λ (x : Table). ProceedsIn ways x o place program v z r) e (subst (λ x. ProceedsIn ways u x place program v z r) f h)
 
--- a sum at hand in a tree of some style
-pub sum_in : (t : Table) (style : Integers) (n : Node Own) (script : Reading) (text : Text) → (marks_of t).integers ≡ style → IsSum (marks_of t).integers n script text → IsSum style n script text
-sum_in t style n script text e h = subst (λ (s : Integers). IsSum s n script text) e h
+-- a sum or an answer at hand in a tree of some style
+pub sum_in : (t : Table) (style : Integers) (n : Node Own) (script : Reading) (text : Text) → (marks_of t).integers ≡ style → IsCounted (marks_of t).integers n script text → IsCounted style n script text
+sum_in t style n script text e h = subst (λ (s : Integers). IsCounted s n script text) e h

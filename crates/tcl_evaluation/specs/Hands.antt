@@ -3,15 +3,21 @@
 use Rattle.std.specs.Prelude.{◌≡◌, ◌⊎◌, Bool, true, false, ℤ, List, [], ◌∷◌, ◌++◌, Option}
 use Rattle.std.specs.Prelude.{Some, None, Ok}
 use Rattle.std.specs.Fmt.{signed_decimal}
+use Rattle.tcl_commands.specs.Named.{builtin_of, words_of}
+use Rattle.tcl_commands.specs.declared.named.VariableChange.{VariableChange}
+use Rattle.tcl_core.specs.Endings.{ok}
 use Rattle.tcl_core.specs.Paths.{Text, Path}
+use Rattle.tcl_core.specs.Programs.Prog.{done}
 use Rattle.tcl_core.specs.Trees.{Node}
 use Rattle.tcl_expr.specs.declared.tree.ExprTree.{ExprTree}
 use Rattle.tcl_frames.specs.Chain.{read}
 use Rattle.tcl_frames.specs.Places.{Levels}
+use Rattle.tcl_interpreter.specs.declared.builtin.Builtin.{Builtin}
 use Rattle.tcl_interpreter.specs.declared.builtin.Builtin.TheVariants.{Expr}
 use Rattle.tcl_interpreter.specs.declared.command.Command.{Command}
 use Rattle.tcl_interpreter.specs.declared.command.Command.TheVariants as command
 use Rattle.tcl_language.specs.Instructions.{fits}
+use Rattle.tcl_language.specs.Table.{builtin}
 use Rattle.tcl_language.specs.Words.{concat}
 use Rattle.tcl_expression_evaluation.specs.AtHand.{IsNumberAtHand}
 use Rattle.tcl_parser.specs.Reading.{read_script}
@@ -91,16 +97,55 @@ abbrev pub IsSumIn : Table → Place → Reading → Text → Type 0
 IsSumIn t place script text = (p : Path) (n : Node Own) → Names t place p → tree_of t p ≡ Some n →
     IsSum (marks_of t).integers n script text
 
--- the word is a sum in brackets, which comes to the text
-abbrev pub IsSumWord : Integers → Node Own → WordRead → Text → Type 0
-IsSumWord style n word text = (word.expand ≡ false) × (fits text ≡ true) × (inner : Text) ×
-    (word.parts ≡ Script inner ∷ []) × IsSum style n (read_script inner) text
+-- ## Answers: scripts that are one command, which ends at once with a text
+
+-- a built-in command with these words does nothing but end with the text
+abbrev pub IsAnswer : Integers → Builtin → List Text → Text → Type 0
+IsAnswer style called args text = builtin style called args ≡ done (ok text)
+
+-- The script is one command: a word that stands for itself names a built-in one, which with what
+-- the other words stand for ends with the text.
+pub record IsAnswered (style : Integers) (n : Node Own) (script : Reading) (text : Text) :
+    Type 0 where
+  pub word : Text
+  pub called : Builtin
+  pub rest : List WordRead
+  pub args : List Text
+  pub is : script ≡ record {
+    commands = (literal_word word ∷ rest) ∷ [];
+    fault = None;
+  }
+  pub short : fits word ≡ true
+  pub named : IsNamed n word (command.Builtin called)
+  pub stand : AllStand n.own.chain.frames rest args
+  pub answer : IsAnswer style called args text
+
+-- and so in the interpreter that a place names
+abbrev pub IsAnsweredIn : Table → Place → Reading → Text → Type 0
+IsAnsweredIn t place script text = (p : Path) (n : Node Own) → Names t place p →
+    tree_of t p ≡ Some n → IsAnswered (marks_of t).integers n script text
+
+-- ## Scripts in brackets of which only a level and a step are left to count
+
+-- the script is a sum or an answer, which comes to the text
+abbrev pub IsCounted : Integers → Node Own → Reading → Text → Type 0
+IsCounted style n script text = IsSum style n script text ⊎ IsAnswered style n script text
+
+-- and so in the interpreter that a place names
+abbrev pub IsCountedIn : Table → Place → Reading → Text → Type 0
+IsCountedIn t place script text = (p : Path) (n : Node Own) → Names t place p →
+    tree_of t p ≡ Some n → IsCounted (marks_of t).integers n script text
+
+-- the word is a script in brackets that is a sum or an answer, which comes to the text
+abbrev pub IsCountedWord : Integers → Node Own → WordRead → Text → Type 0
+IsCountedWord style n word text = (word.expand ≡ false) × (fits text ≡ true) × (inner : Text) ×
+    (word.parts ≡ Script inner ∷ []) × IsCounted style n (read_script inner) text
 
 -- The word isn't spread, and it stands for the text, as one that is at hand or as the result of a
--- sum in brackets.
+-- sum or an answer in brackets.
 abbrev pub EndsAs : Integers → Node Own → WordRead → Bool → Text → Type 0
 EndsAs style n word false text = StandsFor n.own.chain.frames word text
-EndsAs style n word true text = IsSumWord style n word text
+EndsAs style n word true text = IsCountedWord style n word text
 
 -- and so in the interpreter that a place names
 abbrev pub EndsIn : Table → Place → WordRead → Bool → Text → Type 0
@@ -114,17 +159,27 @@ KeepsOwn old new place = (p : Path) (n : Node Own) → Names old place p → tre
 
 -- ## The words of calls
 
--- Each word stands for the text at its place, but that one is a sum in brackets where it is told.
+-- Each word stands for the text at its place, but that one is a sum or an answer in brackets where
+-- it is told.
 abbrev pub AllEnd : Integers → Node Own → List WordRead → Bool → List Text → Type 0
 AllEnd style n [] sums [] = sums ≡ false
 AllEnd style n [] sums (t ∷ texts) = Prim.⊥
 AllEnd style n (w ∷ words) sums [] = Prim.⊥
 AllEnd style n (w ∷ words) sums (t ∷ texts) =
     (StandsFor n.own.chain.frames w t × AllEnd style n words sums texts) ⊎
-    ((sums ≡ true) × IsSumWord style n w t × AllStand n.own.chain.frames words texts)
+    ((sums ≡ true) × IsCountedWord style n w t × AllStand n.own.chain.frames words texts)
 
 -- whether one of two is told, unless both are
 abbrev pub one_of : Bool → Bool → Option Bool
 one_of true true = None
 one_of true false = Some true
 one_of false other = Some other
+
+-- ## Changes of variables
+
+-- These are the words of a command that makes a change of the variable of a name, in the
+-- interpreter that a place names, and each stands for its text.
+abbrev pub IsChangeIn : Table → Place → List WordRead → Text → VariableChange → Bool → Type 0
+IsChangeIn t place ws name change sums = (word : Text) × ((p : Path) (n : Node Own) →
+    Names t place p → tree_of t p ≡ Some n → IsNamed n word (command.Builtin (builtin_of change)) ×
+    AllEnd (marks_of t).integers n ws sums (word ∷ name ∷ words_of change))

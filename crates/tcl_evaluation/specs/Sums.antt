@@ -16,14 +16,14 @@ use Rattle.tcl_tree.specs.Own.{Own}
 use Rattle.tcl_tree.specs.TreeOf.{tree_of}
 use Rattle.tcl_tree.specs.declared.tree.Place.{Place}
 use Rattle.tcl_tree.specs.declared.tree.Tree.{Tree as Table}
-use Rattle.tcl_evaluation.specs.Hands.{AllEnd, IsNamed, IsSum}
+use Rattle.tcl_evaluation.specs.Hands.{AllEnd, IsCounted, IsNamed}
 use Rattle.tcl_evaluation.specs.Scripts.{read_so}
 
--- each sum that is at hand there is evaluated so far, to the end that its result has
+-- each sum or answer that is at hand there is evaluated so far, to the end that its result has
 abbrev pub Sums : {S : Type 0} → Ways S → Table → S → Place → Table → S → (Text → Ending) → Type 0
 Sums ways old o place new z end = (p : Path) (style : Integers) (n : Node Own) →
     IsThere old place p style → tree_of old p ≡ Some n → (script : Reading) (text : Text) →
-    IsSum style n script text →
+    IsCounted style n script text →
     Proceeds ways (language style) (tree_of old) o p (read_so script) (tree_of new) z (end text)
 
 -- a command that the word names goes so far, from its step on, with these arguments

@@ -16,9 +16,9 @@ ghost use Rattle.tcl_prepared.specs.Views.{seen_command, seen_part, seen_word};
 ghost use Rattle.tcl_evaluation.specs.View.{PartGoes, PartBreaks};
 ghost use Rattle.tcl_evaluation.specs.Scripts.{read_so};
 
-use crate::hands::sum_at_hand;
+use crate::hands::counted_at_hand;
 use crate::sums::count_sum;
-use crate::words::{call_literals, call_words};
+use crate::words::{call_general, call_literals, change_or_call};
 use std::alloc::Global;
 use tcl_calls::words::{
     OpenElement, append, append_value, close_element, finish, open_element, within,
@@ -135,7 +135,7 @@ pub fn eval_read<O: Outside>(
 }
 
 /// Evaluates a script in brackets that was read with the script around it, one level deeper. A sum
-/// that is at hand is only counted.
+/// or an answer that is at hand is only counted.
 ///
 /// # Errors
 /// Those of a script.
@@ -153,9 +153,9 @@ fn eval_bracket<O: Outside>(
     ensures here { OnCompletion result (IsHere tree.old tree.new place) }
     ensures keeps { Keeps O.entries_left tree.old tree.new outside.old outside.new }
 {
-    if let Some(sum) = sum_at_hand(tree, alloc, place, bracket.script()) {
+    if let Some(value) = counted_at_hand(tree, alloc, place, bracket.kind(), bracket.script()) {
         count_sum(tree, alloc, outside, place)?;
-        return Ok(sum);
+        return Ok(value);
     }
     eval_script(tree, alloc, outside, place, bracket.script())
 }
@@ -211,8 +211,11 @@ fn eval_command<O: Outside>(
         PreparedCommand::Constant(literals) => {
             call_literals(tree, alloc, outside, place, literals.words())
         }
+        PreparedCommand::AtHand(words) => {
+            change_or_call(tree, alloc, outside, place, words.as_slice())
+        }
         PreparedCommand::General(words) => {
-            call_words(tree, alloc, outside, place, words.as_slice())
+            call_general(tree, alloc, outside, place, words.as_slice())
         }
     }
 }
@@ -238,6 +241,7 @@ pub(crate) fn eval_word<O: Outside>(
 {
     match word {
         PreparedWord::Literal(value) => Ok(known_short(value.clone()?)),
+        PreparedWord::Name(name) => Ok(known_short(name.value()?)),
         PreparedWord::Lone(part) => eval_lone_part(tree, alloc, outside, place, part),
         PreparedWord::Parts(parts) => substitute(tree, alloc, outside, place, parts.as_slice()),
         PreparedWord::Spread(parts) => substitute(tree, alloc, outside, place, parts.as_slice()),

@@ -1,20 +1,26 @@
-//! What is at hand: words, commands, and sums in brackets.
-ghost use Rattle.std.specs.Prelude.{◌≡◌, ◌∷◌, [], true, false, map, IfSome};
+//! What is at hand: words, commands, and sums and answers in brackets.
+ghost use Rattle.std.specs.Prelude.{◌≡◌, ◌∷◌, [], true, false, List, map, IfSome};
+ghost use Rattle.tcl_core.specs.Paths.{Text};
 ghost use Rattle.tcl_commands.specs.Kinds.{is_plain};
 ghost use Rattle.tcl_language.specs.Instructions.{fits};
 ghost use Rattle.tcl_parser.specs.declared.script.Part.TheVariants.{Script};
 ghost use Rattle.std.specs.String.{string_bytes};
 ghost use Rattle.tcl_prepared.specs.Views.{seen_part, seen_word};
-ghost use Rattle.tcl_evaluation.specs.Hands.{EndsIn, IsSumIn, PartAdds, PartsStand, StandsFor};
+ghost use Rattle.tcl_evaluation.specs.Hands.{AllStand, EndsIn, IsAnswer, IsAnsweredIn};
+ghost use Rattle.tcl_evaluation.specs.Hands.{IsCountedIn, IsSumIn, PartAdds, PartsStand, StandsFor};
 ghost use Rattle.tcl_evaluation.specs.Hands.{one_of};
 
 use std::alloc::Global;
-use tcl_calls::expressions::{number_at, read_expression};
+use tcl_calls::expressions::{expression_of_words, number_at};
 use tcl_calls::lookup::builtin_named;
-use tcl_calls::scripts::{hand_place, script_of};
+use tcl_commands::texts::string_value;
 use tcl_frames::frames::Frames;
+use tcl_lists::commands::{llength, lrange};
+use tcl_lists::indexes::lindex;
+use tcl_prepared::kinds::BracketKind;
 use tcl_prepared::prepared::{Bracket, Prepared, PreparedCommand, PreparedPart, PreparedWord};
 use tcl_run::steps::{frames_seen, known_short};
+use tcl_text::integer::Integers;
 use tcl_text::limit::MOST_BYTES;
 use tcl_text::text::Text;
 use tcl_tree::builtin::Builtin;
@@ -79,6 +85,7 @@ fn value_at_hand(frames: &Frames, alloc: Global, word: &PreparedWord) -> Option<
 {
     let value = match word {
         PreparedWord::Literal(value) => value.clone().ok()?,
+        PreparedWord::Name(name) => name.value().ok()?,
         PreparedWord::Lone(PreparedPart::Variable(name)) => {
             frames.scalar_near(name)?.clone().ok()?
         }
@@ -120,16 +127,99 @@ pub fn sum_at_hand(tree: &Tree, alloc: Global, place: Place, script: &Prepared) 
     let Builtin::Expr = builtin_named(tree, place, word)? else {
         return None;
     };
-    let Ok(text) = script_of(alloc, args) else {
-        return None;
-    };
     let style = tree.integers();
-    let Ok(kept) = read_expression(tree, alloc, style, &text) else {
-        return None;
-    };
-    hand_place(&text, &args[0]);
+    let kept = expression_of_words(tree, alloc, style, args)?;
     let number = number_at(tree, place, style, &kept)?;
     Some(known_short(Value::from_int(number)))
+}
+
+/// What a command that asks a list or a text for something gives, if it is one of those.
+fn answer_of(alloc: Global, style: Integers, builtin: Builtin, args: &[Value]) -> Option<Value>
+    ensures { IfSome result (λ value. IsAnswer style builtin args.now value) }
+{
+    match builtin {
+        Builtin::Llength => llength(alloc, args).ok(),
+        Builtin::Lindex => lindex(alloc, style, args).ok(),
+        Builtin::Lrange => lrange(alloc, style, args).ok(),
+        Builtin::String => string_value(alloc, style, args).ok(),
+        _ => None,
+    }
+}
+
+/// The same of one to three words that are at hand over these frames.
+fn answer_of_words(
+    frames: &Frames,
+    alloc: Global,
+    style: Integers,
+    builtin: Builtin,
+    words: &[PreparedWord],
+) -> Option<Value>
+    ensures { IfSome result (λ value. (args : List Text) ×
+        AllStand frames.now.frames (map seen_word words.now) args ×
+        IsAnswer style builtin args value) }
+{
+    match words {
+        [first] => {
+            let a = value_at_hand(frames, alloc, first)?;
+            answer_of(alloc, style, builtin, &[a])
+        }
+        [first, second] => {
+            let a = value_at_hand(frames, alloc, first)?;
+            let b = value_at_hand(frames, alloc, second)?;
+            answer_of(alloc, style, builtin, &[a, b])
+        }
+        [first, second, third] => {
+            let a = value_at_hand(frames, alloc, first)?;
+            let b = value_at_hand(frames, alloc, second)?;
+            let c = value_at_hand(frames, alloc, third)?;
+            answer_of(alloc, style, builtin, &[a, b, c])
+        }
+        _ => None,
+    }
+}
+
+/// The result of a script that is one command that asks a list or a text for something, where its
+/// words are at hand. Nothing is counted: [`count_sum`](crate::sums::count_sum) does that.
+fn answer_at_hand(tree: &Tree, alloc: Global, place: Place, script: &Prepared) -> Option<Value>
+    ensures { IfSome result (λ value. IsAnsweredIn tree.now place script.now value) }
+{
+    let [command] = script.commands() else {
+        return None;
+    };
+    let PreparedCommand::AtHand(words) = command else {
+        return None;
+    };
+    let None = script.fault() else {
+        return None;
+    };
+    let [first, args @ ..] = words.as_slice() else {
+        return None;
+    };
+    let PreparedWord::Literal(name) = first else {
+        return None;
+    };
+    name.keeps_limit();
+    let builtin = builtin_named(tree, place, name)?;
+    let frames = frames_seen(tree, place)?;
+    answer_of_words(frames, alloc, tree.integers(), builtin, args)
+}
+
+/// The result of a script in brackets that is a sum or an answer at hand, as its kind says.
+pub fn counted_at_hand(
+    tree: &Tree,
+    alloc: Global,
+    place: Place,
+    kind: BracketKind,
+    script: &Prepared,
+) -> Option<Value>
+    ensures at_hand { IfSome result (λ value. IsCountedIn tree.now place script.now value) }
+    ensures short { IfSome result (λ value. fits value ≡ true) }
+{
+    match kind {
+        BracketKind::Sum => sum_at_hand(tree, alloc, place, script),
+        BracketKind::Answer => Some(known_short(answer_at_hand(tree, alloc, place, script)?)),
+        BracketKind::Other => None,
+    }
 }
 
 /// The script in brackets that a word is.
@@ -143,7 +233,8 @@ fn bracket_of(word: &PreparedWord) -> Option<&Bracket>
     }
 }
 
-/// What a word stands for, and whether it is a sum in brackets, which isn't counted yet.
+/// What a word stands for, and whether it is a sum or an answer in brackets, which isn't counted
+/// yet.
 pub(crate) fn end_at_hand(
     tree: &Tree,
     alloc: Global,
@@ -153,8 +244,8 @@ pub(crate) fn end_at_hand(
     ensures { IfSome result (λ end. EndsIn tree.now place (seen_word word.now) end.1 end.0) }
 {
     if let Some(bracket) = bracket_of(word) {
-        let sum = sum_at_hand(tree, alloc, place, bracket.script())?;
-        return Some((sum, true));
+        let value = counted_at_hand(tree, alloc, place, bracket.kind(), bracket.script())?;
+        return Some((value, true));
     }
     Some((word_at_hand(tree, alloc, place, word)?, false))
 }

@@ -3,6 +3,7 @@
 
 mod at_hand;
 pub mod calls;
+mod changes;
 mod children;
 mod collecting;
 mod commands;

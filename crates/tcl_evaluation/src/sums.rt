@@ -1,4 +1,4 @@
-//! Counting what sums take.
+//! Counting what sums and answers take.
 ghost use Rattle.std.specs.Prelude.{OnOk, IfErr, Some};
 ghost use Rattle.tcl_core.specs.Endings.{ok};
 ghost use Rattle.tcl_core.specs.Endings.Reply.{Completed};
@@ -16,7 +16,7 @@ use tcl_run::outside::Outside;
 use tcl_run::steps::charge;
 use tcl_tree::tree::{Place, Tree};
 
-/// Counts what a sum takes: a level, and in it the step of its `expr`.
+/// Counts what a sum or an answer takes: a level, and in it the step of its command.
 ///
 /// # Errors
 /// 308, of the level or of the step; want of memory for its error.

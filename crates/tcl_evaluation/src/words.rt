@@ -7,6 +7,7 @@ ghost use Rattle.tcl_run.specs.Runs.{IsHere, IsRunning, Keeps, ProceedsIn, ways}
 ghost use Rattle.tcl_value.specs.Texts.{AllWithin};
 
 use crate::at_hand::{call_at_hand, call_known, call_named};
+use crate::changes::{call_change_on_hand, change_at_hand};
 use crate::commands::call;
 use crate::evaluation::eval_word;
 use std::alloc::Global;
@@ -78,14 +79,41 @@ pub fn call_literals<O: Outside>(
     call_texts(tree, alloc, outside, place, words)
 }
 
-/// Substitutes a command's words from left to right, makes a step and calls it. Words that are at
-/// hand aren't evaluated one by one.
+/// Changes a variable, where the words are at hand and those of a command that does so, or calls
+/// the command that they name.
+///
+/// # Errors
+/// Those of the words; the stop 308; those of the call; want of memory.
+#[cycle(eval)]
+pub fn change_or_call<O: Outside>(
+    tree: &mut Tree,
+    alloc: Global,
+    outside: &mut O,
+    place: Place,
+    words: &[PreparedWord],
+) -> Result<Value, Interruption>
+    requires running { IsRunning tree.old place }
+    ensures runs { ProceedsIn (ways O.goes O.loses) tree.old outside.old place
+        (λ style. scripts.words (map seen_word words.now) []) tree.new outside.new result }
+    ensures here { OnCompletion result (IsHere tree.old tree.new place) }
+    ensures keeps { Keeps O.entries_left tree.old tree.new outside.old outside.new }
+{
+    match change_at_hand(tree, alloc, place, words) {
+        Some((name, change, sums)) => {
+            call_change_on_hand(tree, alloc, outside, place, name, change, sums)
+        }
+        None => call_words(tree, alloc, outside, place, words),
+    }
+}
+
+/// Substitutes the words of a command that may be at hand from left to right, makes a step and
+/// calls it. Where they are at hand they aren't evaluated one by one.
 ///
 /// # Errors
 /// Those of the words; 101 to 104 of a word that is spread; the stop 308; those of the call; want
 /// of memory.
 #[cycle(eval)]
-pub fn call_words<O: Outside>(
+fn call_words<O: Outside>(
     tree: &mut Tree,
     alloc: Global,
     outside: &mut O,
@@ -112,7 +140,7 @@ pub fn call_words<O: Outside>(
 /// of memory.
 #[cycle(eval)]
 #[inline(never)]
-fn call_general<O: Outside>(
+pub(crate) fn call_general<O: Outside>(
     tree: &mut Tree,
     alloc: Global,
     outside: &mut O,
@@ -139,6 +167,7 @@ fn expands(word: &PreparedWord) -> bool
 {
     match word {
         PreparedWord::Spread(_) => true,
-        PreparedWord::Literal(_) | PreparedWord::Lone(_) | PreparedWord::Parts(_) => false,
+        PreparedWord::Literal(_) | PreparedWord::Name(_) => false,
+        PreparedWord::Lone(_) | PreparedWord::Parts(_) => false,
     }
 }

@@ -62,12 +62,23 @@ fn place_near<V>(entries: &[(Text, V)], place: usize, name: &str) -> Option<usiz
     place_of(entries, name)
 }
 
+/// The same of a text, whose first bytes are compared as a number.
+fn place_at<V>(entries: &[(Text, V)], place: usize, name: &Text) -> Option<usize>
+    ensures { MatchOption result (lookup (bytes_eq name.now) entries.now ≡ None)
+        (λ i. Holds name.now entries.now i) }
+{
+    if place < entries.len() && entries[place].0 == *name {
+        return Some(place);
+    }
+    place_of(entries, name.as_str())
+}
+
 /// The same, in less time where it is the place at which the name was found last.
 fn hinted_place<V>(entries: &[(Text, V)], name: &VariableName) -> Option<usize>
     ensures { MatchOption result (lookup (bytes_eq name.now) entries.now ≡ None)
         (λ i. Holds name.now entries.now i) }
 {
-    match place_near(entries, name.hint(), name.as_str()) {
+    match place_at(entries, name.hint(), name.text()) {
         Some(place) => {
             name.set_hint(place);
             Some(place)

@@ -11,7 +11,8 @@ use Rattle.tcl_prepared.specs.declared.prepared.PreparedPart.TheVariants.{Bracke
 use Rattle.tcl_prepared.specs.declared.prepared.PreparedWord.{PreparedWord}
 use Rattle.tcl_prepared.specs.declared.prepared.PreparedWord.TheVariants as word
 use Rattle.tcl_prepared.specs.declared.prepared.PreparedCommand.{PreparedCommand}
-use Rattle.tcl_prepared.specs.declared.prepared.PreparedCommand.TheVariants.{Constant, General}
+use Rattle.tcl_prepared.specs.declared.prepared.PreparedCommand.TheVariants.{Constant}
+use Rattle.tcl_prepared.specs.declared.prepared.PreparedCommand.TheVariants.{AtHand, General}
 use Rattle.tcl_prepared.specs.declared.prepared.Bracket.TheDeep.{deep-PreparedPart}
 use Rattle.tcl_prepared.specs.declared.prepared.Bracket.TheDeep.{deep-PreparedWord}
 use Rattle.tcl_prepared.specs.declared.prepared.Bracket.TheDeep.{deep-PreparedCommand}
@@ -30,6 +31,7 @@ parts_fall (p ∷ ps) = omega (arith, part_falls p, parts_fall ps)
 
 word_falls : (w : PreparedWord) → deep-PreparedWord w ≤ parts_weight (seen_word w).parts
 word_falls (word.Literal t) = omega arith
+word_falls (word.Name t) = omega arith
 word_falls (word.Lone p) = omega (arith, part_falls p)
 word_falls (word.Parts ps) = omega (arith, parts_fall ps.items)
 word_falls (word.Spread ps) = omega (arith, parts_fall ps.items)
@@ -40,6 +42,7 @@ words_fall (w ∷ ws) = omega (arith, word_falls w, words_fall ws)
 
 command_falls : (c : PreparedCommand) → deep-PreparedCommand c ≤ words_weight (seen_command c)
 command_falls (Constant ts) = omega arith
+command_falls (AtHand ws) = omega (arith, words_fall ws.items)
 command_falls (General ws) = omega (arith, words_fall ws.items)
 
 pub commands_fall : (cs : List PreparedCommand) →

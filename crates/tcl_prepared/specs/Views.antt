@@ -10,7 +10,8 @@ use Rattle.tcl_prepared.specs.declared.prepared.PreparedPart.TheVariants.{Bracke
 use Rattle.tcl_prepared.specs.declared.prepared.PreparedWord.{PreparedWord}
 use Rattle.tcl_prepared.specs.declared.prepared.PreparedWord.TheVariants as word
 use Rattle.tcl_prepared.specs.declared.prepared.PreparedCommand.{PreparedCommand}
-use Rattle.tcl_prepared.specs.declared.prepared.PreparedCommand.TheVariants.{Constant, General}
+use Rattle.tcl_prepared.specs.declared.prepared.PreparedCommand.TheVariants.{Constant}
+use Rattle.tcl_prepared.specs.declared.prepared.PreparedCommand.TheVariants.{AtHand, General}
 
 -- a part; a script in brackets is seen as its text
 abbrev pub seen_part : PreparedPart → Part
@@ -32,10 +33,12 @@ literal_word t = record { parts = literal_parts t; expand = false }
 
 abbrev pub seen_word : PreparedWord → WordRead
 seen_word (word.Literal t) = literal_word t
+seen_word (word.Name t) = literal_word t
 seen_word (word.Lone p) = record { parts = seen_part p ∷ []; expand = false }
 seen_word (word.Parts ps) = record { parts = map seen_part ps.items; expand = false }
 seen_word (word.Spread ps) = record { parts = map seen_part ps.items; expand = true }
 
 abbrev pub seen_command : PreparedCommand → List WordRead
 seen_command (Constant ts) = map literal_word ts
+seen_command (AtHand ws) = map seen_word ws.items
 seen_command (General ws) = map seen_word ws.items

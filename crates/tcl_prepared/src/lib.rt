@@ -2,6 +2,7 @@
 //! the scripts in brackets read along with it.
 #![tactic(auto)]
 
+pub mod kinds;
 mod lists;
 pub mod operand;
 mod pieces;

@@ -27,7 +27,7 @@ fn parts_pieces(parts: &[PreparedPart]) -> usize {
 /// Those of a word: itself, and its parts'.
 pub(crate) fn word_pieces(word: &PreparedWord) -> usize {
     match word {
-        PreparedWord::Literal(_) => 1,
+        PreparedWord::Literal(_) | PreparedWord::Name(_) => 1,
         PreparedWord::Lone(part) => part_pieces(part).saturating_add(1),
         PreparedWord::Parts(parts) | PreparedWord::Spread(parts) => {
             parts_pieces(parts.as_slice()).saturating_add(1)
@@ -51,7 +51,7 @@ fn all_pieces(alloc: Global, command: &PreparedCommand) -> usize {
             let words = literals.words();
             words.len().saturating_add(pieces_in_values(alloc, words))
         }
-        PreparedCommand::General(words) => {
+        PreparedCommand::AtHand(words) | PreparedCommand::General(words) => {
             let words = words.as_slice();
             words_pieces(words).saturating_add(pieces_in_words(alloc, words))
         }

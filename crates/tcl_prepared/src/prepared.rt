@@ -1,12 +1,14 @@
 //! Scripts that are ready to be evaluated.
-ghost use Rattle.std.specs.Prelude.{◌≡◌, map};
+ghost use Rattle.std.specs.Prelude.{◌≡◌, map, IfOk};
 ghost use Rattle.tcl_parser.specs.Reading.{read_script};
+ghost use Rattle.tcl_value.specs.Limits.{IsWithin};
 ghost use Rattle.tcl_value.specs.Texts.{AllWithin};
 ghost use Rattle.tcl_prepared.specs.Views.{seen_command};
 ghost use Rattle.tcl_prepared.specs.Brackets.{IsBracket};
 
+use crate::kinds::{BracketKind, kind_of};
 use crate::pieces::commands_pieces;
-use std::alloc::Global;
+use std::alloc::{AllocError, Global};
 use std::marker::Model;
 use tcl_frames::variable_name::VariableName;
 use tcl_parser::fault::Fault;
@@ -54,6 +56,59 @@ impl Literals {
     }
 }
 
+/// A word that stands for itself and is to name a variable. Contracts see it as its text.
+pub struct NameWord {
+    name: VariableName,
+}
+
+impl Drop for NameWord {
+    fn drop(self) {
+        let NameWord { name: _name } = self;
+    }
+}
+
+impl Model for NameWord {
+    ghost use Rattle.std.specs.Prelude.{List, ℕ};
+
+    ghost Value = { List ℕ };
+
+    ghost view = { λ a. a.name };
+
+    ghost use Rattle.tcl_value.specs.Limits.{IsWithin};
+
+    ghost invariant = { λ a. IsWithin a.name };
+}
+
+impl NameWord {
+    /// The word of this text.
+    pub(crate) fn new(text: Text) -> NameWord
+        requires { IsWithin text }
+        ensures { result ≡ text }
+    {
+        NameWord {
+            name: VariableName::new(text),
+        }
+    }
+
+    /// The name.
+    pub fn name(&self) -> &VariableName
+        ensures name { result.now ≡ self.now }
+        ensures within { IsWithin self.now }
+    {
+        &self.name
+    }
+
+    /// The text as a value, which shares it.
+    ///
+    /// # Errors
+    /// Want of memory.
+    pub fn value(&self) -> Result<Value, AllocError>
+        ensures { IfOk result (λ value. value ≡ self.now) }
+    {
+        Ok(Value::from_short_text(self.name.text().clone()?))
+    }
+}
+
 /// A part of a word, as of a word that was read.
 #[cycle(prepared)]
 #[derive(Drop)]
@@ -80,6 +135,8 @@ pub enum PreparedPart {
 pub enum PreparedWord {
     /// The text that it stands for, as a value.
     Literal(Value),
+    /// The same, where that is to name a variable.
+    Name(NameWord),
     /// One part.
     Lone(PreparedPart),
     /// The parts that it is made of.
@@ -94,6 +151,9 @@ pub enum PreparedWord {
 pub enum PreparedCommand {
     /// Each word stands for itself. They are lent as they are to whoever calls the command.
     Constant(Literals),
+    /// Words that may be at hand: a literal, and one to four that are plain, or of which one is a
+    /// script in brackets that may be at hand. A hint: they may be words of any kind.
+    AtHand(Vec<PreparedWord>),
     /// Words of any kind.
     General(Vec<PreparedWord>),
 }
@@ -116,6 +176,7 @@ pub struct Prepared {
 pub struct Bracket {
     text: Text,
     script: Box<Prepared>,
+    kind: BracketKind,
 }
 
 impl Drop for Prepared {
@@ -135,6 +196,7 @@ impl Drop for Bracket {
         let Bracket {
             text: _text,
             script: _script,
+            kind: _,
         } = self;
     }
 }
@@ -222,7 +284,8 @@ impl Bracket {
         requires { IsBracket text script.value }
         ensures { result ≡ text }
     {
-        Bracket { text, script }
+        let kind = kind_of(&script);
+        Bracket { text, script, kind }
     }
 
     /// The text between the brackets.
@@ -230,6 +293,12 @@ impl Bracket {
         ensures { result.now ≡ self.now }
     {
         &self.text
+    }
+
+    /// What may be known of its result before it is evaluated. A hint: whoever takes it looks at
+    /// the script.
+    pub fn kind(&self) -> BracketKind {
+        self.kind
     }
 
     /// What the text was read as.

@@ -10,9 +10,12 @@ ghost use Rattle.tcl_prepared.specs.Views.{literal_parts, literal_word};
 ghost use Rattle.tcl_prepared.specs.Brackets.{part_weight, parts_weight, words_weight};
 ghost use Rattle.tcl_prepared.specs.Brackets.{commands_weight};
 
+use crate::kinds::{change_one_variable, may_be_at_hand, want_name};
 use crate::lists::{keep_in_values, keep_in_words};
 use crate::operand::Operand;
-use crate::prepared::{Bracket, Literals, Prepared, PreparedCommand, PreparedPart, PreparedWord};
+use crate::prepared::{
+    Bracket, Literals, NameWord, Prepared, PreparedCommand, PreparedPart, PreparedWord,
+};
 use std::alloc::{AllocError, Global};
 use tcl_frames::variable_name::VariableName;
 use tcl_parser::reader::parse;
@@ -206,13 +209,44 @@ fn prepare_command(
 ) -> Result<PreparedCommand, AllocError>
     ensures { IfOk result (λ prepared. seen_command prepared ≡ command.now) }
 {
-    match literal_values(alloc, command.words.as_slice())? {
-        Some(values) => Ok(PreparedCommand::Constant(values)),
-        None => {
-            let mut words = prepare_words(alloc, command.words.as_slice(), levels)?;
-            keep_in_words(alloc, &mut words);
-            Ok(PreparedCommand::General(words))
+    if let Some(literals) = literal_values(alloc, command.words.as_slice())? {
+        if !change_one_variable(literals.words()) {
+            return Ok(PreparedCommand::Constant(literals));
         }
+    }
+    let mut words = prepare_words(alloc, command.words.as_slice(), levels)?;
+    keep_in_words(alloc, &mut words);
+    Ok(command_of(words))
+}
+
+/// A word as the name of a variable, where one is wanted and it is a literal.
+fn named(is_name: bool, word: PreparedWord) -> Result<PreparedWord, AllocError>
+    ensures { IfOk result (λ named. seen_word named ≡ seen_word word) }
+{
+    if is_name { as_name(word) } else { Ok(word) }
+}
+
+/// A literal as the name of a variable. Another word, and a number, stays as it is.
+fn as_name(word: PreparedWord) -> Result<PreparedWord, AllocError>
+    ensures { IfOk result (λ named. seen_word named ≡ seen_word word) }
+{
+    if let PreparedWord::Literal(value) = &word {
+        if let Some(text) = value.as_text() {
+            value.keeps_limit();
+            return Ok(PreparedWord::Name(NameWord::new(text.clone()?)));
+        }
+    }
+    Ok(word)
+}
+
+/// A command of these words.
+fn command_of(words: Vec<PreparedWord>) -> PreparedCommand
+    ensures { seen_command result ≡ map seen_word words.items }
+{
+    if may_be_at_hand(words.as_slice()) {
+        PreparedCommand::AtHand(words)
+    } else {
+        PreparedCommand::General(words)
     }
 }
 
@@ -227,7 +261,9 @@ fn prepare_words(
 {
     let mut prepared = Vec::with_capacity(alloc, words.len())?;
     'words: for word in words {
-        prepared.push(prepare_word(alloc, word, levels)?)?;
+        let is_name = want_name(prepared.as_slice());
+        let made = prepare_word(alloc, word, levels)?;
+        prepared.push(named(is_name, made)?)?;
     }
     Ok(prepared)
 }

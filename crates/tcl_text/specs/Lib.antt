@@ -8,3 +8,4 @@ pub mod NumberForms
 pub mod Writing
 pub mod Measuring
 pub mod Messages
+pub mod Eight

@@ -1,6 +1,7 @@
 //! Texts that are shared, and are changed in place where they are not.
 ghost use Rattle.std.specs.Prelude.{◌≡◌, ◌++◌, ◌==◌, length, IfOk, OnOk, OnErr};
 ghost use Rattle.std.specs.String.{string_bytes};
+ghost use Rattle.tcl_text.specs.Eight.{eight, IsFront};
 
 use std::alloc::{AllocError, Global};
 use std::cell::Cell;
@@ -11,9 +12,13 @@ use std::marker::Model;
 use std::rc::Rc;
 
 /// What the clones of a text share.
+///
+/// Its first eight bytes stand as one number beside it, by which texts that differ are mostly told
+/// apart, and short ones compared, without a look at their bytes.
 #[derive(Drop)]
 struct Shared {
     text: String,
+    front: u64,
     hint: Cell<u32>,
 }
 
@@ -21,14 +26,39 @@ impl Clone for Shared {
     ghost use Rattle.std.specs.Prelude.{◌≡◌};
     ghost use Rattle.std.specs.String.{string_bytes};
 
-    ghost is_clone = { λ x y. string_bytes y.text ≡ string_bytes x.text };
+    ghost is_clone = { λ x y. (string_bytes y.text ≡ string_bytes x.text) × (y.front ≡ x.front) };
 
     fn clone(&self) -> Result<Shared, AllocError> {
         Ok(Shared {
             text: self.text.clone()?,
+            front: self.front,
             hint: Cell::new(0),
         })
     }
+}
+
+/// The first eight bytes, 0 for each that isn't there.
+fn eight_of(bytes: &[u8]) -> [u8; 8]
+    ensures { result ≡ eight bytes.now }
+{
+    match bytes {
+        [] => [0; 8],
+        [a] => [*a, 0, 0, 0, 0, 0, 0, 0],
+        [a, b] => [*a, *b, 0, 0, 0, 0, 0, 0],
+        [a, b, c] => [*a, *b, *c, 0, 0, 0, 0, 0],
+        [a, b, c, d] => [*a, *b, *c, *d, 0, 0, 0, 0],
+        [a, b, c, d, e] => [*a, *b, *c, *d, *e, 0, 0, 0],
+        [a, b, c, d, e, f] => [*a, *b, *c, *d, *e, *f, 0, 0],
+        [a, b, c, d, e, f, g] => [*a, *b, *c, *d, *e, *f, *g, 0],
+        [a, b, c, d, e, f, g, h, ..] => [*a, *b, *c, *d, *e, *f, *g, *h],
+    }
+}
+
+/// The first eight bytes of a text as a number, the first byte its lowest.
+fn front_of(text: &str) -> u64
+    ensures { IsFront text.now result }
+{
+    u64::from_le_bytes(eight_of(text.as_bytes()))
 }
 
 /// A text in UTF-8, which contracts see as the list of its bytes.
@@ -51,10 +81,13 @@ impl Drop for Text {
 impl Model for Text {
     ghost use Rattle.std.specs.Prelude.{List, ℕ};
     ghost use Rattle.std.specs.String.{string_bytes};
+    ghost use Rattle.tcl_text.specs.Eight.{IsFront};
 
     ghost Value = { List ℕ };
 
     ghost view = { λ a. string_bytes a.shared.value.text };
+
+    ghost invariant = { λ a. IsFront (string_bytes a.shared.value.text) a.shared.value.front };
 }
 
 impl Text {
@@ -75,8 +108,9 @@ impl Text {
     pub fn from_string(alloc: Global, text: String) -> Result<Text, AllocError>
         ensures { IfOk result (λ made. made ≡ string_bytes text) }
     {
+        let front = front_of(text.as_str());
         let hint = Cell::new(0);
-        let shared = Rc::new(alloc, Shared { text, hint })?;
+        let shared = Rc::new(alloc, Shared { text, front, hint })?;
         Ok(Text { shared })
     }
 
@@ -122,7 +156,9 @@ impl Text {
         ensures unchanged { OnErr result (self.new ≡ self.old) }
     {
         let shared = Rc::make_mut(&mut self.shared)?;
-        shared.text.push_str(more)
+        shared.text.push_str(more)?;
+        shared.front = front_of(shared.text.as_str());
+        Ok(())
     }
 }
 
@@ -145,7 +181,11 @@ impl PartialEq for Text {
     ghost laws = { Cmp.partial_equiv_from_equiv nat_list_eq_equiv };
 
     fn eq(&self, other: &Text) -> bool {
-        self.as_str() == other.as_str()
+        let (text, others) = (self.as_str(), other.as_str());
+        if self.shared.front != other.shared.front || text.len() != others.len() {
+            return false;
+        }
+        text.len() <= 8 || text == others
     }
 }
 

@@ -200,7 +200,7 @@ impl Readings {
         let Some((_, read)) = self.expressions.get_index(at) else {
             return Ok(None);
         };
-        if read.style != style || !value.is_str(read.of.as_str()) {
+        if read.style != style || !value.is_shared_text(&read.of) {
             return Ok(None);
         }
         Ok(Some(read.tree.clone()?))
@@ -240,7 +240,7 @@ impl Readings {
         let Some((_, read)) = self.scripts.get_index(at) else {
             return Ok(None);
         };
-        if !value.is_str(read.of.as_str()) {
+        if !value.is_shared_text(&read.of) {
             return Ok(None);
         }
         Ok(Some(read.script.clone()?))

@@ -165,7 +165,7 @@ pub struct Value {
 }
 
 impl Drop for Value {
-    #[inline]
+    #[inline(always)]
     fn drop(self) {
         let Value { form, kept } = self;
         drop(kept);
@@ -268,7 +268,6 @@ impl Value {
     ///
     /// # Errors
     /// Want of memory.
-    #[inline]
     pub fn text(&self, alloc: Global) -> Result<Text, AllocError>
         ensures { IfOk result (λ text. text ≡ self.now) }
     {
@@ -278,6 +277,16 @@ impl Value {
             Form::Number(n) => Text::from_string(alloc, write_int(alloc, *n)?),
             Form::List(items) => Text::from_string(alloc, items.write(alloc)?),
             Form::Dict(entries) => Text::from_string(alloc, entries.write(alloc)?),
+        }
+    }
+
+    /// Its text, borrowed, where it is kept as one.
+    pub fn as_text(&self) -> Option<&Text>
+        ensures { IfSome result (λ text. text.now ≡ self.now) }
+    {
+        match &self.form {
+            Form::Text(text) => Some(text),
+            Form::Empty | Form::Number(_) | Form::List(_) | Form::Dict(_) => None,
         }
     }
 
@@ -347,12 +356,12 @@ impl Value {
 
     /// Whether its text is this one, in less time than `is_text` takes where it is kept as a text.
     /// This takes no memory.
-    pub fn is_str(&self, text: &str) -> bool
+    pub fn is_shared_text(&self, text: &Text) -> bool
         ensures { IsTrue result ↔ (self.now ≡ text.now) }
     {
         match &self.form {
-            Form::Text(own) => own.as_str() == text,
-            _ => self.is_text(text.as_bytes()),
+            Form::Text(own) => own == text,
+            _ => self.is_text(text.as_str().as_bytes()),
         }
     }
 
@@ -366,8 +375,8 @@ impl Value {
         match (&self.form, &other.form) {
             (Form::Empty, _) => other.is_text(b""),
             (_, Form::Empty) => self.is_text(b""),
-            (Form::Text(text), _) => other.is_str(text.as_str()),
-            (_, Form::Text(text)) => self.is_str(text.as_str()),
+            (Form::Text(text), _) => other.is_shared_text(text),
+            (_, Form::Text(text)) => self.is_shared_text(text),
             (Form::Number(n), _) => other.is_number(*n),
             (_, Form::Number(n)) => self.is_number(*n),
             (Form::List(own), Form::List(items)) => own.same(items),
@@ -567,6 +576,17 @@ impl Value {
         })
     }
 
+    /// The same value, which shares what is kept. It isn't inlined, so that the copy of a value that
+    /// shares nothing, or a text alone, costs little.
+    #[inline(never)]
+    fn share(&self) -> Result<Value, AllocError>
+        ensures { IfOk result (λ value. value ≡ self.now) }
+    {
+        let form = self.form.clone()?;
+        let kept = self.kept.clone()?;
+        Ok(Value { form, kept })
+    }
+
     /// Its text as a key.
     pub(crate) fn key_text(&self, alloc: Global) -> Result<Text, AllocError>
         ensures text { IfOk result (λ text. text ≡ self.now) }
@@ -698,10 +718,19 @@ impl Default for Value {
 impl Clone for Value {
     ghost is_clone = { λ x y. y ≡ x };
 
-    #[inline]
+    #[inline(always)]
     fn clone(&self) -> Result<Value, AllocError> {
-        let form = self.form.clone()?;
-        let kept = self.kept.clone()?;
-        Ok(Value { form, kept })
+        let Kept::Nothing = &self.kept else {
+            return self.share();
+        };
+        let form = match &self.form {
+            Form::Number(n) => Form::Number(*n),
+            Form::Text(text) => Form::Text(text.clone()?),
+            _ => return self.share(),
+        };
+        Ok(Value {
+            form,
+            kept: Kept::Nothing,
+        })
     }
 }

@@ -161,6 +161,7 @@ use Rattle.std.proofs.Common.{Bool}
 use Rattle.tcl_parser.specs.Reading.{read_script}
 use Rattle.tcl_evaluation.specs.Hands.{AllEnd, IsNamed}
 use Rattle.tcl_evaluation.proofs.HandCalling as Calls
+use Rattle.tcl_commands.specs.Named.{builtin_of, words_of}
 use Rattle.tcl_evaluation.proofs.Own.{charged_own, named_own}
 use Rattle.tcl_evaluation.proofs.HandPlainly.{there_at}
 use Rattle.tcl_tree.specs.declared.tree.Tree.{Tree as Table}
@@ -595,6 +596,23 @@ words::call_words-returns-clause-here g t c = subst (λ (x : Table). OnCompletio
 pub words::call_words-returns-clause-keeps : goal.words::call_words-returns-clause-keeps
 words::call_words-returns-clause-keeps g t c = keeps-trans c.call_at_hand.ensures.keeps c.call_general.ensures.keeps
 
+-- a change of a variable
+
+pub words::change_or_call-returns-in-Some-clause-runs : goal.words::change_or_call-returns-in-Some-clause-runs
+words::change_or_call-returns-in-Some-clause-runs g t c =
+    let name = c.in-Some.name.now in
+    let change = c.in-Some.change in
+    let found = c.in-Some.ensures in
+    IfRan-more c.call_change_on_hand.result
+    (CallsBuiltinAtHand (ways g.O.Outside.goes g.O.Outside.loses) c.args.tree.now c.args.outside.now c.args.place (builtin_of change) c.in-Some.sums (name ∷ words_of change) c.call_change_on_hand.new.tree c.call_change_on_hand.new.outside)
+    (EndsFrom (ways g.O.Outside.goes g.O.Outside.loses) c.args.tree.now c.args.outside.now c.args.place (λ style. words (map seen_word c.args.words.now) []) c.call_change_on_hand.new.tree c.call_change_on_hand.new.outside)
+    (λ e k q style at.
+    let n = stands (tree_of c.args.tree.now q) (tree_there c.args.tree.now q _ at.names) in
+    let there = found.1 q n.0 at.names n.1 in
+    k found.0 q style n.0 at n.1 there.0 (map seen_word c.args.words.now)
+    (subst (λ (s : Integers). AllEnd s n.0 (map seen_word c.args.words.now) c.in-Some.sums (found.0 ∷ name ∷ words_of change)) at.style_is there.1))
+    c.call_change_on_hand.ensures.runs
+
 -- any number of words
 
 pub words::call_general-eval_word-requires : goal.words::call_general-eval_word-requires
@@ -673,11 +691,17 @@ evaluation::eval_command-returns-in-Constant-clause-runs g t c =
     (EndsFrom (ways g.O.Outside.goes g.O.Outside.loses) c.args.tree.now c.args.outside.now c.args.place (λ style. words (seen_command c.args.command.now) []) c.call_literals.new.tree c.call_literals.new.outside)
     (λ e h q style at. at_prog (ap (λ (command : PreparedCommand). words (seen_command command) []) c.in-Constant.is ∙ ap (λ (ts : List (List ℕ)). words (map literal_word ts) []) (sym c.words.ensures.words)) (h q style at)) c.call_literals.ensures.runs
 
+pub evaluation::eval_command-returns-in-AtHand-clause-runs : goal.evaluation::eval_command-returns-in-AtHand-clause-runs
+evaluation::eval_command-returns-in-AtHand-clause-runs g t c =
+    IfRan-more c.change_or_call.result (EndsFrom (ways g.O.Outside.goes g.O.Outside.loses) c.args.tree.now c.args.outside.now c.args.place (λ style. words (map seen_word c.as_slice.result.now) []) c.change_or_call.new.tree c.change_or_call.new.outside)
+    (EndsFrom (ways g.O.Outside.goes g.O.Outside.loses) c.args.tree.now c.args.outside.now c.args.place (λ style. words (seen_command c.args.command.now) []) c.change_or_call.new.tree c.change_or_call.new.outside)
+    (λ e h q style at. at_prog (ap (λ (command : PreparedCommand). words (seen_command command) []) c.in-AtHand.is ∙ ap (λ (ws : List PreparedWord). words (map seen_word ws) []) (sym c.as_slice.ensures.value)) (h q style at)) c.change_or_call.ensures.runs
+
 pub evaluation::eval_command-returns-in-General-clause-runs : goal.evaluation::eval_command-returns-in-General-clause-runs
 evaluation::eval_command-returns-in-General-clause-runs g t c =
-    IfRan-more c.call_words.result (EndsFrom (ways g.O.Outside.goes g.O.Outside.loses) c.args.tree.now c.args.outside.now c.args.place (λ style. words (map seen_word c.as_slice.result.now) []) c.call_words.new.tree c.call_words.new.outside)
-    (EndsFrom (ways g.O.Outside.goes g.O.Outside.loses) c.args.tree.now c.args.outside.now c.args.place (λ style. words (seen_command c.args.command.now) []) c.call_words.new.tree c.call_words.new.outside)
-    (λ e h q style at. at_prog (ap (λ (command : PreparedCommand). words (seen_command command) []) c.in-General.is ∙ ap (λ (ws : List PreparedWord). words (map seen_word ws) []) (sym c.as_slice.ensures.value)) (h q style at)) c.call_words.ensures.runs
+    IfRan-more c.call_general.result (EndsFrom (ways g.O.Outside.goes g.O.Outside.loses) c.args.tree.now c.args.outside.now c.args.place (λ style. words (map seen_word c.as_slice-in-General.result.now) []) c.call_general.new.tree c.call_general.new.outside)
+    (EndsFrom (ways g.O.Outside.goes g.O.Outside.loses) c.args.tree.now c.args.outside.now c.args.place (λ style. words (seen_command c.args.command.now) []) c.call_general.new.tree c.call_general.new.outside)
+    (λ e h q style at. at_prog (ap (λ (command : PreparedCommand). words (seen_command command) []) c.in-General.is ∙ ap (λ (ws : List PreparedWord). words (map seen_word ws) []) (sym c.as_slice-in-General.ensures.value)) (h q style at)) c.call_general.ensures.runs
 
 -- the commands of a script
 
@@ -755,6 +779,23 @@ evaluation::eval_word-returns-in_ok-clone-in-Literal-clause-runs g t c =
 pub evaluation::eval_word-returns-in_ok-clone-in-Literal-clause-here : goal.evaluation::eval_word-returns-in_ok-clone-in-Literal-clause-here
 evaluation::eval_word-returns-in_ok-clone-in-Literal-clause-here g t c = here-refl c.args.tree.now c.args.place
 
+pub evaluation::eval_word-returns-in_err-value-in-Name-clause-runs : goal.evaluation::eval_word-returns-in_err-value-in-Name-clause-runs
+evaluation::eval_word-returns-in_err-value-in-Name-clause-runs g t c =
+    let p = err_from_is_err_and c.from_residual-in_err-value-in-Name.result c.from_residual-in_err-value-in-Name.ensures.1 in
+    memory_err c.from_residual-in_err-value-in-Name.result p.0 _ _ p.1 p.2 (λ q style at. stopped)
+
+pub evaluation::eval_word-returns-in_err-value-in-Name-clause-here : goal.evaluation::eval_word-returns-in_err-value-in-Name-clause-here
+evaluation::eval_word-returns-in_err-value-in-Name-clause-here g t c = unmoved c.from_residual-in_err-value-in-Name.result c.args.tree.now c.args.place
+
+pub evaluation::eval_word-returns-in_ok-value-in-Name-clause-runs : goal.evaluation::eval_word-returns-in_ok-value-in-Name-clause-runs
+evaluation::eval_word-returns-in_ok-value-in-Name-clause-runs g t c =
+    let same : c.known_short-in-Name.result ≡ c.in-Name.name = c.known_short-in-Name.ensures.same ∙ c.in_ok-value-in-Name.ensures in
+    λ q style at. at_prog (ap (λ (w : PreparedWord). parts (seen_word w).parts [] []) c.in-Name.is ∙ ap (λ (v : List ℕ). parts (literal_parts v) [] []) (sym same))
+    (Steps.lone style c.known_short-in-Name.result (ap fits c.known_short-in-Name.ensures.same ∙ c.known_short-in-Name.ensures.short))
+
+pub evaluation::eval_word-returns-in_ok-value-in-Name-clause-here : goal.evaluation::eval_word-returns-in_ok-value-in-Name-clause-here
+evaluation::eval_word-returns-in_ok-value-in-Name-clause-here g t c = here-refl c.args.tree.now c.args.place
+
 -- a script
 
 pub evaluation::eval_script-returns-in-Err-clause-runs : goal.evaluation::eval_script-returns-in-Err-clause-runs
@@ -812,7 +853,7 @@ evaluation::eval_bracket-returns-in_err-count_sum-clause-runs g t c =
     let p = err_from_is_err_and c.from_residual.result c.from_residual.ensures.1 in
     ran_err c.from_residual.result c.in_err-count_sum.field-0.0 p.0 _ _ _ p.1 p.2 c.in_err-count_sum.ensures.breaks
     (λ e h q style at. let n = stands (tree_of c.args.tree.now q) (tree_there c.args.tree.now q _ at.names) in
-    at_prog (ap read_so (sym c.script.ensures)) (h.1 q style n.0 at n.1 c.script.result.now c.in-Some.sum (sum_in c.args.tree.now style n.0 c.script.result.now c.in-Some.sum at.style_is (c.in-Some.ensures.at_hand q n.0 at.names n.1))))
+    at_prog (ap read_so (sym c.script.ensures)) (h.1 q style n.0 at n.1 c.script.result.now c.in-Some.value (sum_in c.args.tree.now style n.0 c.script.result.now c.in-Some.value at.style_is (c.in-Some.ensures.at_hand q n.0 at.names n.1))))
 
 pub evaluation::eval_bracket-returns-in_err-count_sum-clause-here : goal.evaluation::eval_bracket-returns-in_err-count_sum-clause-here
 evaluation::eval_bracket-returns-in_err-count_sum-clause-here g t c = on_completion c.from_residual.result (IsHere c.args.tree.now c.count_sum.new.tree c.args.place) c.count_sum.ensures.here
@@ -820,7 +861,7 @@ evaluation::eval_bracket-returns-in_err-count_sum-clause-here g t c = on_complet
 pub evaluation::eval_bracket-returns-in-Some-clause-runs : goal.evaluation::eval_bracket-returns-in-Some-clause-runs
 evaluation::eval_bracket-returns-in-Some-clause-runs g t c = λ q style at.
     let n = stands (tree_of c.args.tree.now q) (tree_there c.args.tree.now q _ at.names) in
-    at_prog (ap read_so (sym c.script.ensures)) (c.in_ok-count_sum.ensures.sums q style n.0 at n.1 c.script.result.now c.in-Some.sum (sum_in c.args.tree.now style n.0 c.script.result.now c.in-Some.sum at.style_is (c.in-Some.ensures.at_hand q n.0 at.names n.1)))
+    at_prog (ap read_so (sym c.script.ensures)) (c.in_ok-count_sum.ensures.sums q style n.0 at n.1 c.script.result.now c.in-Some.value (sum_in c.args.tree.now style n.0 c.script.result.now c.in-Some.value at.style_is (c.in-Some.ensures.at_hand q n.0 at.names n.1)))
 
 pub evaluation::eval_bracket-returns-clause-runs : goal.evaluation::eval_bracket-returns-clause-runs
 evaluation::eval_bracket-returns-clause-runs g t c =

@@ -106,11 +106,14 @@ decreases-words::call_general g l = 32032 * g.O.Outside.entries_left l.outside.n
 abbrev pub decreases-words::call_words : goal.decreases-words::call_words
 decreases-words::call_words g l = 32032 * g.O.Outside.entries_left l.outside.now + 32 * room (tree_of l.tree.now) + 17
 
+abbrev pub decreases-words::change_or_call : goal.decreases-words::change_or_call
+decreases-words::change_or_call g l = 32032 * g.O.Outside.entries_left l.outside.now + 32 * room (tree_of l.tree.now) + 18
+
 abbrev pub decreases-evaluation::eval_command : goal.decreases-evaluation::eval_command
-decreases-evaluation::eval_command g l = 32032 * g.O.Outside.entries_left l.outside.now + 32 * room (tree_of l.tree.now) + 18
+decreases-evaluation::eval_command g l = 32032 * g.O.Outside.entries_left l.outside.now + 32 * room (tree_of l.tree.now) + 19
 
 abbrev pub decreases-evaluation::eval_commands : goal.decreases-evaluation::eval_commands
-decreases-evaluation::eval_commands g l = 32032 * g.O.Outside.entries_left l.outside.now + 32 * room (tree_of l.tree.now) + 19
+decreases-evaluation::eval_commands g l = 32032 * g.O.Outside.entries_left l.outside.now + 32 * room (tree_of l.tree.now) + 20
 
 abbrev pub decreases-crossing::call_target : goal.decreases-crossing::call_target
 decreases-crossing::call_target g l = 32032 * g.O.Outside.entries_left l.outside.now + 32 * room (tree_of l.tree.now) + 0

@@ -13,7 +13,7 @@ use tcl_text::integer::Integers;
 /// The parts of a word that is no literal.
 pub(crate) fn parts_of(word: &PreparedWord) -> &[PreparedPart] {
     match word {
-        PreparedWord::Literal(_) => &[],
+        PreparedWord::Literal(_) | PreparedWord::Name(_) => &[],
         PreparedWord::Lone(part) => slice::from_ref(part),
         PreparedWord::Parts(parts) | PreparedWord::Spread(parts) => parts.as_slice(),
     }

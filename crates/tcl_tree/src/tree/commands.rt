@@ -34,7 +34,7 @@ fn kept<'a>(commands: &'a Commands, word: &Value) -> Option<(&'a Text, &'a Comma
         (λ found. lookup (bytes_eq word.now) commands.now.entries ≡ Some found.1.now) }
 {
     let (name, command) = commands.get_index(word.place()?)?;
-    if word.is_str(name.as_str()) {
+    if word.is_shared_text(name) {
         return Some((name, command));
     }
     None

@@ -27,16 +27,15 @@ returns-clause-at_hand c = λ p n names there.
     ∙ ap (λ x. seen_command x ∷ []) c.in-Constant.is ∙ ap (λ (ts : List (List ℕ)). map literal_word ts ∷ []) texts in
     let fault : c.args.script.now.fault ≡ None = search rules in
     let fits64 : FitsSigned w64 c.in_ok-number.number = search rules in
-    let text : c.in-Ok.text ≡ concat (argument ∷ []) = c.in-Ok.ensures.whole.0 ∙ ap concat alone in
     record {
       word = word;
       argument = argument;
       is = λ i. record { commands = commands i; fault = fault i };
       within = subst AllWithin texts c.words.ensures.within;
       named = subst (λ (b : Builtin). IsNamed n word (command.Builtin b)) c.in-Expr.is (c.in_ok-builtin_named.ensures p n names there);
-      short = ap (λ (ts : List (List ℕ)). fits (concat ts)) (sym alone) ∙ c.in-Ok.ensures.whole.1;
-      kept = c.in-Ok-read_expression.kept.value;
-      is_kept = subst (λ (x : List ℕ). IsKept c.args.tree.now.integers x c.in-Ok-read_expression.kept.value) text (subst (λ s. IsKept s c.in-Ok.text c.in-Ok-read_expression.kept.value) c.integers-style.ensures c.in-Ok-read_expression.ensures.read);
+      short = ap (λ (ts : List (List ℕ)). fits (concat ts)) (sym alone) ∙ c.in_ok-kept.ensures.short;
+      kept = c.in_ok-kept.kept.value;
+      is_kept = subst (λ (ts : List (List ℕ)). IsKept c.args.tree.now.integers (concat ts) c.in_ok-kept.kept.value) alone (subst (λ s. IsKept s (concat args) c.in_ok-kept.kept.value) c.integers-style.ensures c.in_ok-kept.ensures.read);
       number = c.in_ok-number.number;
       at_hand = subst (λ (x : ExprTree). IsNumberAtHand n.own.chain.frames c.args.tree.now.integers x.nodes.items c.in_ok-number.number) c.deref.ensures (subst (λ s. IsNumberAtHand n.own.chain.frames s c.deref.result.now.nodes.items c.in_ok-number.number) c.integers-style.ensures (c.in_ok-number.ensures p n names there));
       comes = c.known_short.ensures.same ∙ c.from_int.ensures ∙ ap signed_decimal (to_z-of_z w64 c.in_ok-number.number fits64);

@@ -9,7 +9,7 @@ use Rattle.tcl_run.proofs.Steady.{level_here, level_steady, nested_here, nested_
 use Rattle.tcl_tree.specs.TreeOf.{tree_of}
 use Rattle.tcl_evaluation.proofs.Own.{charged_own, nested_own, then_own, unnested_own}
 use Rattle.tcl_evaluation.proofs.Steps.{read_refused}
-use Rattle.tcl_evaluation.proofs.Summing.{deep_stays, ok_more, refused_stays, says_breaks, sum_counts, sum_uncounted}
+use Rattle.tcl_evaluation.proofs.Summing.{counts_so, deep_stays, ok_more, refused_stays, says_breaks, uncounted_so}
 use Rattle.tcl_evaluation.proofs.sums.count_sum.Goals as goal
 
 pub unnest-requires : goal.unnest-requires
@@ -32,7 +32,7 @@ returns-in-Err-clause-keeps g c = level_keeps _ (same_level c.args.tree.now c.ne
 pub returns-clause-sums : goal.returns-clause-sums
 returns-clause-sums g c = ok_more c.charge-counted.result c.charge-counted.ensures.counted (λ counts q style n at there read text sum.
     let nested = c.in_default.ensures.nested q at.names in
-    sum_counts style read text sum there nested.0 nested.1 (counts q (c.in_default.ensures.keys q ∙ at.names))
+    counts_so style read text sum there nested.0 nested.1 (counts q (c.in_default.ensures.keys q ∙ at.names))
     (c.unnest.ensures.unnested q 1 (nested_holds c.args.tree.now c.nest_at.new.self c.charge-counted.new.tree c.args.place q at.names c.in_default.ensures.keys c.in_default.ensures.deeper nested.1 (level_steady c.nest_at.new.self c.charge-counted.new.tree c.charge-counted.ensures.level))))
 
 pub returns-clause-breaks : goal.returns-clause-breaks
@@ -40,7 +40,7 @@ returns-clause-breaks g c = says_breaks c.charge-counted.result _ _ c.charge-cou
   refused_stays (ways g.O.Outside.goes g.O.Outside.loses) (tree_of c.nest_at.new.self) (tree_of c.charge-counted.new.tree) c.args.outside.now c.charge-counted.new.outside c.requires.0 e (h c.requires.0 (c.in_default.ensures.keys c.requires.0 ∙ c.requires.1)),
   λ q style n at there read text sum.
       let nested = c.in_default.ensures.nested q at.names in
-      sum_uncounted style read text sum nested.0 nested.1 (h q (c.in_default.ensures.keys q ∙ at.names))
+      uncounted_so style read text sum there nested.0 nested.1 (h q (c.in_default.ensures.keys q ∙ at.names))
       (c.unnest.ensures.unnested q 1 (nested_holds c.args.tree.now c.nest_at.new.self c.charge-counted.new.tree c.args.place q at.names c.in_default.ensures.keys c.in_default.ensures.deeper nested.1 (level_steady c.nest_at.new.self c.charge-counted.new.tree c.charge-counted.ensures.level))),
 ))
 

@@ -1,3 +1,4 @@
+use Rattle.std.proofs.Common.{◌∙◌}
 use Rattle.tcl_prepared.specs.Views.{seen_command, seen_part, seen_word}
 use Rattle.tcl_prepared.proofs.ListLemmas.{made_more}
 use Rattle.tcl_prepared.proofs.preparing.+preparing.Goals as goal
@@ -9,8 +10,8 @@ prepare_to-commands-preserved t c =
 
 pub prepare_words-words-preserved : goal.prepare_words-words-preserved
 prepare_words-words-preserved t c =
-    made_more seen_word c.words.prepared.items c.push.new.self.items c.in_ok-prepare_word.field-0 c.args.words.now c.words.word-index c.word-item.result
-    c.in_ok-push.ensures.items c.words-test.true c.word-item.is c.in_ok-prepare_word.ensures c.words.invariant
+    made_more seen_word c.words.prepared.items c.push.new.self.items c.in_ok-named.field-0 c.args.words.now c.words.word-index c.word-item.result
+    c.in_ok-push.ensures.items c.words-test.true c.word-item.is (c.in_ok-named.ensures ∙ c.in_ok-made.ensures) c.words.invariant
 
 pub prepare_parts-parts-preserved : goal.prepare_parts-parts-preserved
 prepare_parts-parts-preserved t c =

@@ -1,6 +1,6 @@
 use Rattle.std.proofs.Common.{subst, sym}
 use Rattle.tcl_value.specs.Forms.{form_text, IsKept}
-use Rattle.tcl_value.proofs.value.ValueClone.clone.Goals as goal
+use Rattle.tcl_value.proofs.value.Value.share.Goals as goal
 
 pub invariant_of-result : goal.invariant_of-result
 invariant_of-result c = record {
