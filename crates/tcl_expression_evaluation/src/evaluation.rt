@@ -75,7 +75,7 @@ impl Evaluation {
     ///
     /// # Errors
     /// Want of memory.
-    #[inline(always)]
+    #[inline]
     pub fn supply(&mut self, value: Value) -> Result<(), AllocError>
         ensures values { OnOk result (self.new.values.items ≡ self.old.values.items ++ value ∷ []) }
         ensures next { self.new.next ≡ self.old.next }

@@ -165,7 +165,7 @@ pub struct Value {
 }
 
 impl Drop for Value {
-    #[inline(always)]
+    #[inline]
     fn drop(self) {
         let Value { form, kept } = self;
         drop(kept);
@@ -576,8 +576,8 @@ impl Value {
         })
     }
 
-    /// The same value, which shares what is kept. It isn't inlined, so that the copy of a value that
-    /// shares nothing, or a text alone, costs little.
+    /// The same value, which shares what is kept. It isn't inlined, so that the copy of a value
+    /// that shares nothing or a text alone costs little.
     #[inline(never)]
     fn share(&self) -> Result<Value, AllocError>
         ensures { IfOk result (λ value. value ≡ self.now) }
@@ -718,7 +718,7 @@ impl Default for Value {
 impl Clone for Value {
     ghost is_clone = { λ x y. y ≡ x };
 
-    #[inline(always)]
+    #[inline]
     fn clone(&self) -> Result<Value, AllocError> {
         let Kept::Nothing = &self.kept else {
             return self.share();
