@@ -39,7 +39,26 @@ use tcl_value::value::Value;
 ///
 /// # Errors
 /// Why its text is no expression; want of memory.
+#[inline]
 pub fn read_expression(
+    tree: &Tree,
+    alloc: Global,
+    style: Integers,
+    value: &Value,
+) -> Result<Rc<ExprTree>, Interruption>
+    ensures read { IfOk result (λ kept. IsKept style value.now kept.value) }
+    ensures refused { IfErr result
+        (λ i. Interrupts i (IsFailure (message_of value.now) (expression_of style value.now))) }
+{
+    match tree.expression_kept(value, style) {
+        Some(kept) => Ok(kept),
+        None => seek_expression(tree, alloc, style, value),
+    }
+}
+
+/// The same, found by its text or read anew.
+#[inline(never)]
+fn seek_expression(
     tree: &Tree,
     alloc: Global,
     style: Integers,

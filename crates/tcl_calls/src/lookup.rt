@@ -94,14 +94,23 @@ fn callee_of(command: &Command) -> Option<Callee>
 
 /// The command that a word names in the interpreter, if it names one. Where memory is wanting,
 /// none.
-#[inline(never)]
+#[inline]
 pub fn callee_named(tree: &Tree, alloc: Global, place: Place, word: &Value) -> Option<Callee>
     ensures { IfSome result (λ callee. (p : Path) (n : core.Node Own) → Names tree.now place p →
         tree_of tree.now p ≡ Some n → found n word.now ≡ Ok (callee_command callee)) }
 {
-    if let Some(command) = standing(tree, place, word) {
-        return callee_of(command);
+    match standing(tree, place, word) {
+        Some(command) => callee_of(command),
+        None => seek_callee(tree, alloc, place, word),
     }
+}
+
+/// The same, found by its name.
+#[inline(never)]
+fn seek_callee(tree: &Tree, alloc: Global, place: Place, word: &Value) -> Option<Callee>
+    ensures { IfSome result (λ callee. (p : Path) (n : core.Node Own) → Names tree.now place p →
+        tree_of tree.now p ≡ Some n → found n word.now ≡ Ok (callee_command callee)) }
+{
     let Ok(Some(name)) = kept_name(alloc, word) else {
         return None;
     };

@@ -60,19 +60,20 @@ fn bind_all(frames: &mut Frames, alloc: Global, bindings: &[Binding]) -> Result<
     Ok(())
 }
 
-/// Puts a frame with these words and variables on top.
+/// Puts a frame with the words of a call and these variables on top.
 #[inline(never)]
 pub fn enter_frame(
     tree: &mut Tree,
     alloc: Global,
     place: Place,
-    words: Vec<Value>,
+    word: &Value,
+    args: &[Value],
     bindings: &[Binding],
 ) -> Result<(), Interruption>
     requires { (p : Path) × Names tree.old place p }
     ensures entered { OnOk result ((p : Path) (n : core.Node Own) → Names tree.old place p →
         tree_of tree.old p ≡ Some n → tree_of tree.new
-        ≡ effect p (Changed (in_frame words.items (pairs_of bindings.now) n.own))
+        ≡ effect p (Changed (in_frame (word.now ∷ args.now) (pairs_of bindings.now) n.own))
         (tree_of tree.old)) }
     ensures memory { IfErr result (λ i. i ≡ Memory) }
     ensures level { IsLevel tree.old tree.new }
@@ -80,7 +81,7 @@ pub fn enter_frame(
     let Some(frames) = tree.frames_of(place) else {
         return Err(Interruption::Memory);
     };
-    frames.push(alloc, words)?;
+    frames.push_call(alloc, word, args)?;
     bind_all(frames, alloc, bindings)
 }
 
@@ -96,7 +97,7 @@ fn bind_word(
     ensures memory { IfErr result (λ i. i ≡ Memory) }
 {
     let name = VariableName::new(name.clone()?);
-    match frames.set_near(alloc, &name, known_short(word.clone()?)) {
+    match frames.set_new(alloc, &name, known_short(word.clone()?)) {
         Ok(()) => Ok(()),
         Err(FrameError::Fault(_)) => Ok(()),
         Err(FrameError::Memory) => Err(Interruption::Memory),
@@ -138,21 +139,22 @@ fn is_straight(parameters: &[Parameter], args: &[Value]) -> bool
     }
 }
 
-/// Puts a frame with these words on top, in which each parameter is set to the word at its place.
+/// Puts a frame with the words of a call on top, in which each parameter is set to the word at its
+/// place.
 fn enter_straight(
     tree: &mut Tree,
     alloc: Global,
     place: Place,
-    words: Vec<Value>,
     parameters: &[Parameter],
+    word: &Value,
     args: &[Value],
 ) -> Result<(), Interruption>
     requires named { (p : Path) × Names tree.old place p }
     requires even { length parameters.now ≡ length args.now }
     ensures entered { OnOk result ((p : Path) (n : core.Node Own) → Names tree.old place p →
         tree_of tree.old p ≡ Some n → tree_of tree.new
-        ≡ effect p (Changed (in_frame words.items (straight parameters.now args.now) n.own))
-        (tree_of tree.old)) }
+        ≡ effect p (Changed (in_frame (word.now ∷ args.now)
+        (straight parameters.now args.now) n.own)) (tree_of tree.old)) }
     ensures short { OnOk result (fit_all (straight parameters.now args.now) ≡ true) }
     ensures memory { IfErr result (λ i. i ≡ Memory) }
     ensures level { IsLevel tree.old tree.new }
@@ -160,20 +162,8 @@ fn enter_straight(
     let Some(frames) = tree.frames_of(place) else {
         return Err(Interruption::Memory);
     };
-    frames.push(alloc, words)?;
+    frames.push_call(alloc, word, args)?;
     bind_straight(frames, alloc, parameters, args)
-}
-
-/// The words of a call.
-fn words_of_call(alloc: Global, word: &Value, args: &[Value]) -> Result<Vec<Value>, AllocError>
-    ensures { IfOk result (λ words. words.items ≡ word.now ∷ args.now) }
-{
-    let mut words = Vec::with_capacity(alloc, args.len().saturating_add(1))?;
-    words.push(word.clone()?)?;
-    'args: for arg in args {
-        words.push(arg.clone()?)?;
-    }
-    Ok(words)
 }
 
 /// Binds the parameters of a call in a frame of its own, which is put on top. False where words are
@@ -199,15 +189,14 @@ pub fn enter(
         (λ e. TooLongBound (bindings parameters.now args.now) e × (tree.new ≡ tree.old))) }
     ensures level { IsLevel tree.old tree.new }
 {
-    let words = words_of_call(alloc, word, args)?;
     if is_straight(parameters, args) {
-        enter_straight(tree, alloc, place, words, parameters, args)?;
+        enter_straight(tree, alloc, place, parameters, word, args)?;
         return Ok(true);
     }
     let Some(bindings) = bind(alloc, parameters, args)? else {
         return Ok(false);
     };
-    enter_frame(tree, alloc, place, words, bindings.as_slice())?;
+    enter_frame(tree, alloc, place, word, args, bindings.as_slice())?;
     Ok(true)
 }
 

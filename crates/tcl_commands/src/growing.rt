@@ -95,6 +95,7 @@ fn append_elements(alloc: Global, value: &mut Value, more: &[Value]) -> Result<V
 }
 
 /// Makes a value grow, and gives what it then is.
+#[inline]
 fn grow_value(
     alloc: Global,
     value: &mut Value,
@@ -143,6 +144,7 @@ fn make_variable(
 }
 
 /// Makes a variable grow, from the first value of its kind where there is none.
+#[inline(never)]
 fn grow(
     frames: &mut Frames,
     alloc: Global,
@@ -165,6 +167,7 @@ fn grow(
 }
 
 /// The same, in less time where the name stands where it was found last.
+#[inline]
 fn grow_near(
     frames: &mut Frames,
     alloc: Global,
@@ -182,6 +185,7 @@ fn grow_near(
 }
 
 /// Makes a variable of the interpreter that the place names grow.
+#[inline]
 pub(crate) fn grow_variable(
     tree: &mut Tree,
     alloc: Global,

@@ -1,5 +1,6 @@
 //! Adding to the integer that a value is.
-ghost use Rattle.std.specs.Prelude.{◌≡◌, ◌+ℤ◌, IfOk, FitsSigned};
+ghost use Rattle.std.specs.Fmt.{signed_decimal};
+ghost use Rattle.std.specs.Prelude.{◌≡◌, ◌+ℤ◌, IfOk, IfSome, Ok, FitsSigned};
 ghost use Rattle.std.specs.Int.{w64};
 ghost use Rattle.tcl_core.specs.Endings.Reply.{Completed};
 ghost use Rattle.tcl_language.specs.Variables as variables;
@@ -46,8 +47,46 @@ fn make_sum(alloc: Global, value: &mut Value, n: i64, increment: i64) -> Result<
     }
 }
 
+/// What is added, where it is a number at hand.
+fn increment_at_hand(words: &[Value]) -> Option<i64>
+    ensures { IfSome result (λ n. (style : Integers) → increment style words.now ≡ Ok n) }
+{
+    match words {
+        [] => Some(1),
+        [word, ..] => word.number(),
+    }
+}
+
+/// The sum of a value and what is added to it, where both are numbers at hand and it has 64 bits.
+fn sum_at_hand(value: &Value, words: &[Value]) -> Option<i64>
+    ensures { IfSome result (λ sum. (style : Integers) →
+        raised style words.now value.now ≡ Ok (signed_decimal sum)) }
+{
+    let n = value.number()?;
+    let increment = increment_at_hand(words)?;
+    n.checked_add(increment)
+}
+
 /// Adds to the integer of a value, and gives what it then is.
+#[inline]
 pub(crate) fn raise(
+    style: Integers,
+    alloc: Global,
+    value: &mut Value,
+    words: &[Value],
+) -> Result<Value, Interruption>
+    ensures { GrowsTo value.old (raised style words.now) value.new result }
+{
+    if let Some(sum) = sum_at_hand(value, words) {
+        value.set_int(sum);
+        return Ok(Value::from_int(sum));
+    }
+    raise_read(style, alloc, value, words)
+}
+
+/// The same, whose integers are read.
+#[inline(never)]
+fn raise_read(
     style: Integers,
     alloc: Global,
     value: &mut Value,

@@ -17,6 +17,7 @@ mod Walking
 mod Writing
 mod Alone
 pub mod HandCalling
+mod Counting
 pub mod Computing
 pub mod Found
 pub mod Own

@@ -12,7 +12,7 @@ ghost use Rattle.tcl_evaluation.specs.Hands.{AllEnd, IsChangeIn};
 ghost use Rattle.tcl_evaluation.specs.Sums.{CallsBuiltin, CallsBuiltinAtHand};
 
 use crate::hands::end_at_hand;
-use crate::sums::count_sum;
+use crate::sums::count_first;
 use std::alloc::Global;
 use tcl_calls::lookup::builtin_named;
 use tcl_commands::named::{VariableChange, change_variable};
@@ -127,9 +127,6 @@ pub(crate) fn call_change_on_hand<O: Outside>(
     ensures here { OnCompletion result (IsHere tree.old tree.new place) }
     ensures keeps { Keeps O.entries_left tree.old tree.new outside.old outside.new }
 {
-    if sums {
-        count_sum(tree, alloc, outside, place)?;
-        return call_change(tree, alloc, outside, place, name, change);
-    }
+    count_first(tree, alloc, outside, place, sums)?;
     call_change(tree, alloc, outside, place, name, change)
 }

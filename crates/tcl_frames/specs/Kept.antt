@@ -6,4 +6,4 @@ use Rattle.tcl_frames.specs.declared.name_map.Entries.TheVariants.{Few, Many}
 -- the entries, whichever way they are kept
 abbrev pub kept : {V : Type 0} → Entries V → List (List ℕ × V)
 kept (Few es) = es
-kept (Many es) = es
+kept (Many es) = es.value

@@ -1,6 +1,6 @@
 //! A few names, which are looked through one by one.
 ghost use Rattle.std.specs.Prelude.{◌≡◌, ◌<◌, [], Some, None, MatchOption, IfSome, IfOk, OnOk};
-ghost use Rattle.std.specs.Prelude.{OnErr, length, map, not, slice_get, vec_len, false};
+ghost use Rattle.std.specs.Prelude.{OnErr, length, map, not, slice_get, vec_len, false, IsTrue};
 ghost use Rattle.std.specs.Borrow.{sem};
 ghost use Rattle.std.specs.List.{IsDistinct};
 ghost use Rattle.std.specs.Map.{lookup, keys_of, remove_entry};
@@ -62,29 +62,41 @@ fn place_near<V>(entries: &[(Text, V)], place: usize, name: &str) -> Option<usiz
     place_of(entries, name)
 }
 
-/// The same of a text, whose first bytes are compared as a number.
-fn place_at<V>(entries: &[(Text, V)], place: usize, name: &Text) -> Option<usize>
-    ensures { MatchOption result (lookup (bytes_eq name.now) entries.now ≡ None)
-        (λ i. Holds name.now entries.now i) }
+/// Whether a name stands at a place. First bytes are compared as a number.
+#[inline(always)]
+fn stands_at<V>(entries: &[(Text, V)], place: usize, name: &Text) -> bool
+    ensures { IsTrue result → Holds name.now entries.now place }
 {
-    if place < entries.len() && entries[place].0 == *name {
-        return Some(place);
-    }
-    place_of(entries, name.as_str())
+    place < entries.len() && entries[place].0 == *name
 }
 
-/// The same, in less time where it is the place at which the name was found last.
-fn hinted_place<V>(entries: &[(Text, V)], name: &VariableName) -> Option<usize>
+/// The place at which a name stands, from 0, which the name keeps. It isn't inlined, so that a name
+/// that stands where it was found last costs little.
+#[inline(never)]
+fn sought_place<V>(entries: &[(Text, V)], name: &VariableName) -> Option<usize>
     ensures { MatchOption result (lookup (bytes_eq name.now) entries.now ≡ None)
         (λ i. Holds name.now entries.now i) }
 {
-    match place_at(entries, name.hint(), name.text()) {
+    match place_of(entries, name.as_str()) {
         Some(place) => {
             name.set_hint(place);
             Some(place)
         }
         None => None,
     }
+}
+
+/// The same, in less time where it is the place at which the name was found last.
+#[inline(always)]
+fn hinted_place<V>(entries: &[(Text, V)], name: &VariableName) -> Option<usize>
+    ensures { MatchOption result (lookup (bytes_eq name.now) entries.now ≡ None)
+        (λ i. Holds name.now entries.now i) }
+{
+    let place = name.hint();
+    if stands_at(entries, place, name.text()) {
+        return Some(place);
+    }
+    sought_place(entries, name)
 }
 
 impl<V> FewNames<V> {

@@ -1,6 +1,6 @@
 //! A frame of a chain.
-ghost use Rattle.std.specs.Prelude.{◌≡◌, Ok, Some, None, true, false, MatchOption, IfSome, IfOk};
-ghost use Rattle.std.specs.Prelude.{OnOk, IfErr, OnErr};
+ghost use Rattle.std.specs.Prelude.{◌≡◌, ◌++◌, ◌∷◌, Ok, Some, None, true, false, MatchOption};
+ghost use Rattle.std.specs.Prelude.{IfSome, IfOk, OnOk, IfErr, OnErr, IsTrue};
 ghost use Rattle.std.specs.Map.{lookup};
 ghost use Rattle.std.specs.Option.{option_copied};
 ghost use Rattle.std.specs.Str.{bytes_eq};
@@ -40,6 +40,21 @@ impl Model for Frame {
     ghost Value = { Seen };
 
     ghost view = { λ a. record { words = a.words.items; variables = a.variables } };
+}
+
+/// The most words of a call whose room is kept for another one.
+const MOST_WORDS: usize = 16;
+
+/// Adds the words of a call behind others.
+fn add_words(words: &mut Vec<Value>, word: &Value, args: &[Value]) -> Result<(), AllocError>
+    ensures { OnOk result (words.new.items ≡ words.old.items ++ word.now ∷ args.now) }
+{
+    words.reserve(args.len().saturating_add(1))?;
+    words.push(word.clone()?)?;
+    'args: for arg in args {
+        words.push(arg.clone()?)?;
+    }
+    Ok(())
 }
 
 /// The refusal of reading a part of what stands for nothing.
@@ -107,28 +122,33 @@ impl Frame {
         }
     }
 
-    /// A frame with these words and no variables, in the room of those of a frame that was let go.
-    /// This takes no memory.
-    pub fn in_room(alloc: Global, room: NameMap<Variable>, words: Vec<Value>) -> Frame
-        ensures words { result.words ≡ words.items }
-        ensures variables { result.variables ≡ [] }
+    /// Takes its words and its variables out, and keeps their room, where that isn't large. Tells
+    /// whether it isn't. This takes no memory.
+    pub fn clear_small(&mut self) -> bool
+        ensures words { IsTrue result → self.new.words ≡ [] }
+        ensures variables { IsTrue result → self.new.variables ≡ [] }
     {
-        match room.emptied() {
-            Some(variables) => Frame { words, variables },
-            None => Frame::new(alloc, words),
-        }
+        self.words.clear();
+        self.words.capacity() <= MOST_WORDS && self.variables.clear_few()
     }
 
-    /// Lets the frame go, and keeps the room of its variables, with nothing in it, where that isn't
-    /// large. This takes no memory.
-    pub fn into_room(self) -> Option<NameMap<Variable>>
-        ensures { IfSome result (λ room. room ≡ []) }
+    /// Gives it these words in place of its own.
+    pub fn set_words(&mut self, words: Vec<Value>)
+        ensures words { self.new.words ≡ words.items }
+        ensures variables { self.new.variables ≡ self.old.variables }
     {
-        let Frame {
-            words: _words,
-            variables,
-        } = self;
-        variables.emptied()
+        self.words = words;
+    }
+
+    /// Adds the words of a call behind its own.
+    ///
+    /// # Errors
+    /// Want of memory.
+    pub fn add_call(&mut self, word: &Value, args: &[Value]) -> Result<(), AllocError>
+        ensures words { OnOk result (self.new.words ≡ self.old.words ++ word.now ∷ args.now) }
+        ensures variables { self.new.variables ≡ self.old.variables }
+    {
+        add_words(&mut self.words, word, args)
     }
 
     /// The words of its call.

@@ -29,6 +29,14 @@ use tcl_value::value::Value;
 /// The most frames that may stand where room is taken to keep that of one more.
 const MOST_SPARE: usize = 64;
 
+/// A frame with nothing in it.
+#[derive(Drop)]
+struct SpareFrame {
+    frame: Frame,
+    ghost no_words: { frame.words ≡ [] },
+    ghost no_variables: { frame.variables ≡ [] },
+}
+
 /// Frames that were set aside: those that stood above a level.
 #[derive(Drop)]
 struct SetAside {
@@ -69,8 +77,8 @@ impl Same for SetAside {
 pub struct Frames {
     frames: Vec<Frame>,
     aside: Vec<SetAside>,
-    // The room of the variables of frames that were taken off, for the next ones.
-    spare: Vec<NameMap<Variable>>,
+    // Frames that were taken off, for the next ones.
+    spare: Vec<SpareFrame>,
 }
 
 impl Drop for Frames {
@@ -118,39 +126,36 @@ fn split_frames(frames: &mut Vec<Frame>, alloc: Global, at: usize) -> Result<Vec
     Ok(rest)
 }
 
-/// A frame with these words and no variables, in a room that is spare. Where none is, there is room
-/// afterwards to keep that of so many frames, if they aren't too many.
-fn frame_in(
-    spare: &mut Vec<NameMap<Variable>>,
+/// A frame with no words and no variables: a spare one, if there is one. Where there is none, there
+/// is room afterwards to keep so many, if they aren't too many.
+fn empty_frame(
+    spare: &mut Vec<SpareFrame>,
     alloc: Global,
-    words: Vec<Value>,
     count: usize,
 ) -> Result<Frame, AllocError>
-    ensures words { IfOk result (λ frame. frame.words ≡ words.items) }
+    ensures words { IfOk result (λ frame. frame.words ≡ []) }
     ensures variables { IfOk result (λ frame. frame.variables ≡ []) }
 {
-    if let Some(room) = spare.pop() {
-        return Ok(Frame::in_room(alloc, room, words));
+    if let Some(SpareFrame { frame }) = spare.pop() {
+        return Ok(frame);
     }
     if count < MOST_SPARE {
         spare.reserve(count)?;
     }
-    Ok(Frame::new(alloc, words))
+    Ok(Frame::new(alloc, Vec::new(alloc)))
 }
 
-/// Takes the frame on top off, and keeps the room of its variables, where there is room for that.
-fn take_off(frames: &mut Vec<Frame>, spare: &mut Vec<NameMap<Variable>>)
+/// Takes the frame on top off, and keeps its room, where there is room for that.
+fn take_off(frames: &mut Vec<Frame>, spare: &mut Vec<SpareFrame>)
     ensures items { frames.new.items ≡ take (vec_len frames.old - 1) frames.old.items }
     ensures capacity { vec_capacity frames.new ≡ vec_capacity frames.old }
 {
     let Some(frame) = frames.pop() else {
         return;
     };
-    let Some(room) = frame.into_room() else {
-        return;
-    };
-    if spare.len() < spare.capacity() {
-        spare.push_reserved(room);
+    let mut frame = frame;
+    if frame.clear_small() && spare.len() < spare.capacity() {
+        spare.push_reserved(SpareFrame { frame });
     }
 }
 
@@ -547,7 +552,29 @@ impl Frames {
         ensures unchanged { OnErr result (self.new ≡ self.old) }
     {
         let count = self.frames.len();
-        let frame = frame_in(&mut self.spare, alloc, words, count)?;
+        let mut frame = empty_frame(&mut self.spare, alloc, count)?;
+        frame.set_words(words);
+        self.frames.push(frame)?;
+        Ok(())
+    }
+
+    /// Puts a frame with the words of a call on top.
+    ///
+    /// # Errors
+    /// Want of memory.
+    #[inline(always)]
+    pub fn push_call(
+        &mut self,
+        alloc: Global,
+        word: &Value,
+        args: &[Value],
+    ) -> Result<(), AllocError>
+        ensures ok { OnOk result (self.new ≡ pushed self.old (word.now ∷ args.now)) }
+        ensures unchanged { OnErr result (self.new ≡ self.old) }
+    {
+        let count = self.frames.len();
+        let mut frame = empty_frame(&mut self.spare, alloc, count)?;
+        frame.add_call(word, args)?;
         self.frames.push(frame)?;
         Ok(())
     }

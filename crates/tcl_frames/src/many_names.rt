@@ -118,6 +118,7 @@ impl<V> ManyNames<V> {
     }
 
     /// What a name has, in less time where it stands where it was found last. This takes no memory.
+    #[inline(never)]
     pub fn get_hinted(&self, name: &VariableName) -> Option<&V>
         ensures { option_copied result ≡ lookup (bytes_eq name.now) self.now }
     {
@@ -131,6 +132,7 @@ impl<V> ManyNames<V> {
     }
 
     /// The same, to write.
+    #[inline(never)]
     pub fn get_mut_hinted(&mut self, name: &VariableName) -> Option<&mut V>
         ensures* writes_back { sem 𝓛 (lends_many V.row self.entry name.now result) }
         ensures value { option_copied_mut result ≡ lookup (bytes_eq name.now) self.old }
@@ -206,11 +208,7 @@ impl<V: Drop> ManyNames<V> {
     ///
     /// # Errors
     /// Want of memory, which leaves the few as they were.
-    pub fn of_few(
-        alloc: Global,
-        few: &mut FewNames<V>,
-        more: usize,
-    ) -> Result<ManyNames<V>, AllocError>
+    fn of_few(alloc: Global, few: &mut FewNames<V>, more: usize) -> Result<ManyNames<V>, AllocError>
         ensures made { IfOk result (λ many. many ≡ few.old) }
         ensures unchanged { OnErr result (few.new ≡ few.old) }
     {
@@ -220,6 +218,24 @@ impl<V: Drop> ManyNames<V> {
         let held = replace(few, FewNames::new(alloc)).into_entries();
         insert_reserved(&mut entries, renamed(names, held, keyed));
         Ok(ManyNames { entries })
+    }
+
+    /// The same in a box, whose memory is asked for first.
+    ///
+    /// # Errors
+    /// Want of memory, which leaves the few as they were.
+    pub fn boxed(
+        alloc: Global,
+        few: &mut FewNames<V>,
+        more: usize,
+    ) -> Result<Box<ManyNames<V>>, AllocError>
+        ensures made { IfOk result (λ many. many.value ≡ few.old) }
+        ensures unchanged { OnErr result (few.new ≡ few.old) }
+    {
+        let entries = IndexMap::new(alloc);
+        let mut many = Box::new(alloc, ManyNames { entries })?;
+        *many = ManyNames::of_few(alloc, few, more)?;
+        Ok(many)
     }
 
     /// Gives a name this value: where it stands, or at the end.

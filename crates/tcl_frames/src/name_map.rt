@@ -1,6 +1,6 @@
 //! Maps from names, in the order of insertion.
 ghost use Rattle.std.specs.Prelude.{◌≡◌, [], Some, None, IfSome, IfOk, OnOk, OnErr};
-ghost use Rattle.std.specs.Prelude.{length, slice_get};
+ghost use Rattle.std.specs.Prelude.{length, slice_get, IsTrue};
 ghost use Rattle.std.specs.Borrow.{sem};
 ghost use Rattle.std.specs.Map.{lookup, remove_entry};
 ghost use Rattle.std.specs.Option.{option_map, option_copied, option_copied_mut};
@@ -34,7 +34,7 @@ impl<V: Drop> Drop for NameMap<V> {
 #[derive(Drop)]
 enum Entries<V> {
     Few(FewNames<V>),
-    Many(ManyNames<V>),
+    Many(Box<ManyNames<V>>),
 }
 
 impl<V> Model for NameMap<V> {
@@ -160,7 +160,7 @@ impl<V: Drop> NameMap<V> {
                 if few.len() < MOST_FEW {
                     return Ok(());
                 }
-                let many = ManyNames::of_few(alloc, few, 1)?;
+                let many = ManyNames::boxed(alloc, few, 1)?;
                 self.entries = Entries::Many(many);
                 Ok(())
             }
@@ -241,7 +241,7 @@ impl<V: Drop> NameMap<V> {
         match &mut self.entries {
             Entries::Many(many) => many.insert_all(alloc, entries),
             Entries::Few(few) => {
-                let mut many = ManyNames::of_few(alloc, few, entries.len())?;
+                let mut many = ManyNames::boxed(alloc, few, entries.len())?;
                 let inserted = many.insert_all(alloc, entries);
                 self.entries = Entries::Many(many);
                 inserted
@@ -249,21 +249,18 @@ impl<V: Drop> NameMap<V> {
         }
     }
 
-    /// The empty map in the room of this one. Where this one finds its names by their hashes there
-    /// is none, since a table may be large. This takes no memory.
+    /// Takes all names out, and keeps their room, where they are few. Tells whether they were. This
+    /// takes no memory.
     #[inline(always)]
-    pub fn emptied(self) -> Option<NameMap<V>>
-        ensures { IfSome result (λ map. map ≡ []) }
+    pub fn clear_few(&mut self) -> bool
+        ensures cleared { IsTrue result → self.new ≡ [] }
     {
-        let NameMap { entries } = self;
-        match entries {
-            Entries::Few(mut few) => {
+        match &mut self.entries {
+            Entries::Few(few) => {
                 few.clear();
-                Some(NameMap {
-                    entries: Entries::Few(few),
-                })
+                true
             }
-            Entries::Many(_) => None,
+            Entries::Many(_) => false,
         }
     }
 

@@ -169,7 +169,9 @@ pub fn detach(nodes: &mut Slab<Node>, key: usize, parent: usize)
     nodes.insert_reserved(node);
 }
 
-/// Takes a level of depth from a node, and removes it where that was its last.
+/// Takes a level of depth from a node, and removes it where that was its last. It isn't inlined, so
+/// that the end of an evaluation in a node that stands costs little.
+#[inline(never)]
 pub fn ease(nodes: &mut Slab<Node>, key: usize)
     requires there { IsSome (get nodes.old key) }
     ensures eased { (node : Node) → get nodes.old key ≡ Some node →

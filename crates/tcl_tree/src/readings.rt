@@ -137,9 +137,6 @@ impl Readings {
     pub fn script_of(&mut self, alloc: Global, value: &Value) -> Result<Rc<Prepared>, AllocError>
         ensures { IfOk result (λ script. script.value ≡ read_script value.now) }
     {
-        if let Some(script) = self.script_at_hand(value)? {
-            return Ok(script);
-        }
         let text = value.text(alloc)?;
         let Found { script, at } = self.find(alloc, &text)?;
         if let Some(at) = at {
@@ -172,9 +169,6 @@ impl Readings {
     ) -> Result<Rc<ExprTree>, ExprError>
         ensures { Gives result (expression_of style value.now) }
     {
-        if let Some(tree) = self.expression_at_hand(value, style)? {
-            return Ok(tree);
-        }
         let _within = value.text_len();
         let text = value.text(alloc)?;
         let FoundExpression { tree, at } = self.find_expression(alloc, &text, style)?;
@@ -185,25 +179,16 @@ impl Readings {
     }
 
     /// The expression that a value is, if it is found at the place that the value keeps. What
-    /// stands there may be that of another text, or in another style.
-    fn expression_at_hand(
-        &self,
-        value: &Value,
-        style: Integers,
-    ) -> Result<Option<Rc<ExprTree>>, AllocError>
-        ensures { IfOk result (λ found. IfSome found
-            (λ tree. IsTree style value.now tree.value)) }
+    /// stands there may be that of another text, or in another style. This takes no memory.
+    #[inline]
+    pub fn expression_kept(&self, value: &Value, style: Integers) -> Option<Rc<ExprTree>>
+        ensures { IfSome result (λ tree. IsTree style value.now tree.value) }
     {
-        let Some(at) = value.place() else {
-            return Ok(None);
-        };
-        let Some((_, read)) = self.expressions.get_index(at) else {
-            return Ok(None);
-        };
+        let (_, read) = self.expressions.get_index(value.place()?)?;
         if read.style != style || !value.is_shared_text(&read.of) {
-            return Ok(None);
+            return None;
         }
-        Ok(Some(read.tree.clone()?))
+        read.tree.clone().ok()
     }
 
     /// The expression that a text is, found by the text or read.
@@ -229,21 +214,16 @@ impl Readings {
     }
 
     /// The script that a value is, if it is found at the place that the value keeps. What stands
-    /// there may be that of another text.
-    fn script_at_hand(&self, value: &Value) -> Result<Option<Rc<Prepared>>, AllocError>
-        ensures { IfOk result (λ found. IfSome found
-            (λ script. script.value ≡ read_script value.now)) }
+    /// there may be that of another text. This takes no memory.
+    #[inline]
+    pub fn script_kept(&self, value: &Value) -> Option<Rc<Prepared>>
+        ensures { IfSome result (λ script. script.value ≡ read_script value.now) }
     {
-        let Some(at) = value.place() else {
-            return Ok(None);
-        };
-        let Some((_, read)) = self.scripts.get_index(at) else {
-            return Ok(None);
-        };
+        let (_, read) = self.scripts.get_index(value.place()?)?;
         if !value.is_shared_text(&read.of) {
-            return Ok(None);
+            return None;
         }
-        Ok(Some(read.script.clone()?))
+        read.script.clone().ok()
     }
 
     /// The script that a text is, found by the text or read.

@@ -96,6 +96,23 @@ impl Frames {
             *held = value;
             return Ok(());
         }
+        self.set_new(alloc, name, value)
+    }
+
+    /// The same, in less time where the current frame doesn't have the name.
+    ///
+    /// # Errors
+    /// Want of memory; refusals 232, 233 (of setting) and 238.
+    pub fn set_new(
+        &mut self,
+        alloc: Global,
+        name: &VariableName,
+        value: Value,
+    ) -> Result<(), FrameError>
+        ensures ok { OnOk result (after_set self.old name.now value ≡ Ok self.new) }
+        ensures err { IfErr result (λ e. Refuses e (after_set self.old name.now value)) }
+        ensures unchanged { OnErr result (self.new ≡ self.old) }
+    {
         match self.insert_near(alloc, name, value)? {
             None => Ok(()),
             Some(value) => self.set(alloc, name.text(), value),

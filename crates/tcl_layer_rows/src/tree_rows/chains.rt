@@ -231,7 +231,10 @@ fn of_none(frames: &mut Frames, alloc: Global, call: &str) -> Result<Answer, All
 
 /// `push ?WORD ..?`: puts a frame on top, of a call with these words.
 fn push(frames: &mut Frames, alloc: Global, words: &[Text]) -> Result<Answer, AllocError> {
-    frames.push(alloc, values_of(alloc, words)?)?;
+    match values_of(alloc, words)?.as_slice() {
+        [] => frames.push(alloc, Vec::new(alloc))?,
+        [word, args @ ..] => frames.push_call(alloc, word, args)?,
+    }
     given(alloc, "-")
 }
 

@@ -1,4 +1,4 @@
-use Rattle.std.proofs.Common.{◌∙◌}
+use Rattle.std.proofs.Common.{◌∙◌, ◌∷◌}
 use Rattle.tcl_core.specs.Trees.{effect}
 use Rattle.tcl_core.specs.Trees.What.{Changed}
 use Rattle.tcl_language.specs.Control.{in_frame}
@@ -7,13 +7,12 @@ use Rattle.tcl_calls.specs.Procedures.{pairs_of, straight}
 use Rattle.tcl_calls.proofs.procedures.enter.Goals as goal
 
 pub returns-then-is_straight-clause-entered : goal.returns-then-is_straight-clause-entered
-returns-then-is_straight-clause-entered c =
-    let bs = straight c.args.parameters.now c.args.args.now in (
-      bs,
-      c.is_straight.ensures.bound c.if-is_straight.true,
-      c.in_ok-enter_straight.ensures.short,
-      λ p n at is. c.in_ok-enter_straight.ensures.entered p n at is ∙ (λ i. effect p (Changed (in_frame (c.in_ok-words.ensures i) bs n.own)) (tree_of c.args.tree.now)),
-    )
+returns-then-is_straight-clause-entered c = (
+  straight c.args.parameters.now c.args.args.now,
+  c.is_straight.ensures.bound c.if-is_straight.true,
+  c.in_ok-enter_straight.ensures.short,
+  c.in_ok-enter_straight.ensures.entered,
+)
 
 pub returns-clause-entered : goal.returns-clause-entered
 returns-clause-entered c =
@@ -21,5 +20,5 @@ returns-clause-entered c =
       pairs_of c.in-Some.bindings.items,
       found.0,
       found.1,
-      λ p n at is. c.in_ok-enter_frame.ensures.entered p n at is ∙ (λ i. effect p (Changed (in_frame (c.in_ok-words.ensures i) (pairs_of (c.as_slice.ensures.value i)) n.own)) (tree_of c.args.tree.now)),
+      λ p n at is. c.in_ok-enter_frame.ensures.entered p n at is ∙ (λ i. effect p (Changed (in_frame (c.args.word.now ∷ c.args.args.now) (pairs_of (c.as_slice.ensures.value i)) n.own)) (tree_of c.args.tree.now)),
     )

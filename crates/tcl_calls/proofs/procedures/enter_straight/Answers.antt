@@ -1,4 +1,4 @@
-use Rattle.std.proofs.Common.{◌≡◌, rules, ap, ◌∙◌}
+use Rattle.std.proofs.Common.{◌≡◌, ◌∷◌, rules, ap, ◌∙◌}
 use Rattle.std.proofs.lemmas.Option.{same_Some}
 use Rattle.std.proofs.lemmas.Result.{on_ok_weaker}
 use Rattle.std.specs.Option.{option_map}
@@ -20,13 +20,13 @@ returns-clause-entered c =
     let held = c.frames_of.follows.holds c.bind_straight.new.frames (search rules) p at in
     let chain : c.in-Some.frames.now ≡ n.own.chain = same_Some _ _ (c.in-Some.ensures.value p at ∙ ap (option_map (λ (m : Node Own). m.own.chain)) is) in
     held.tree n is ∙ ap (λ (x : Chain). effect p (Changed (with_chain n.own x)) (tree_of c.args.tree.now))
-    (set ∙ ap (bound (straight c.args.parameters.now c.args.args.now)) (c.in_ok-push.ensures.ok ∙ ap (λ (x : Chain). pushed x c.args.words.items) chain)))
+    (set ∙ ap (bound (straight c.args.parameters.now c.args.args.now)) (c.in_ok-push_call.ensures.ok ∙ ap (λ (x : Chain). pushed x (c.args.word.now ∷ c.args.args.now)) chain)))
     c.bind_straight.ensures.bound
 
-pub returns-in_err-push-clause-level : goal.returns-in_err-push-clause-level
-returns-in_err-push-clause-level c =
+pub returns-in_err-push_call-clause-level : goal.returns-in_err-push_call-clause-level
+returns-in_err-push_call-clause-level c =
     let named = c.requires.named in
-    lent_level c.args.tree.now _ c.args.place named.0 _ named.1 (c.frames_of.follows.holds c.push.new.self (search rules) named.0 named.1)
+    lent_level c.args.tree.now _ c.args.place named.0 _ named.1 (c.frames_of.follows.holds c.push_call.new.self (search rules) named.0 named.1)
 
 pub returns-clause-level : goal.returns-clause-level
 returns-clause-level c =

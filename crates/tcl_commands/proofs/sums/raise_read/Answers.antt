@@ -7,7 +7,7 @@ use Rattle.tcl_text.specs.Numbers.{in_64_bits, integer_of}
 use Rattle.tcl_commands.specs.Growing.{GrowsTo}
 use Rattle.tcl_commands.specs.Sums.{increment, number_of, raised}
 use Rattle.tcl_commands.proofs.Raising.{added_none, number_read}
-use Rattle.tcl_commands.proofs.sums.raise.Goals as goal
+use Rattle.tcl_commands.proofs.sums.raise_read.Goals as goal
 
 pub returns-in_err-n : goal.returns-in_err-n
 returns-in_err-n c =

@@ -1,5 +1,0 @@
-use Rattle.std.proofs.Common.{◌≡◌, ◌++◌, ◌∷◌, [], take}
-use Rattle.tcl_calls.proofs.procedures.words_of_call.Given as goal
-
-abbrev pub invariant-args-2 : goal.invariant-args-2
-invariant-args-2 l = l.words.items ≡ (l.word ∷ []) ++ take l.arg-index l.args

@@ -1,9 +1,0 @@
-use Rattle.std.proofs.Common.{◌∙◌, sym, ap}
-use Rattle.tcl_frames.specs.Names.{Text}
-use Rattle.tcl_frames.proofs.FewLemmas.{stands}
-use Rattle.tcl_frames.proofs.few_names.place_at.Goals as goal
-
-pub returns-then-eq : goal.returns-then-eq
-returns-then-eq g c =
-    let at = c.index-entries-place.is in
-    stands c.args.entries.now c.args.place c.index-entries-place.result _ c.args.name.now c.if-place-entries.true at (ap (λ (e : Text × g.row.V.Denot). e.0) (sym at)) (sym c.eq.ensures ∙ c.if-eq.true)
