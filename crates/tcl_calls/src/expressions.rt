@@ -80,6 +80,7 @@ fn seek_expression(
 
 /// The expression that the words of an `expr` are put together to, if they are one. Where memory is
 /// wanting, none.
+#[inline(always)]
 pub fn expression_of_words(
     tree: &Tree,
     alloc: Global,

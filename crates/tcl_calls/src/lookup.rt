@@ -1,5 +1,6 @@
 //! The commands that words name.
-ghost use Rattle.std.specs.Prelude.{◌≡◌, IfOk, IfSome, Some, None, Ok};
+ghost use Rattle.std.specs.Prelude.{◌≡◌, IfOk, IfSome, Some, None, Ok, IsTrue, false};
+ghost use Rattle.tcl_frames.specs.Names.{has_colons};
 ghost use Rattle.tcl_core.specs.Paths.{Path};
 ghost use Rattle.tcl_core.specs.Trees as core;
 ghost use Rattle.tcl_interpreter.specs.declared.command.Command.TheVariants as variant;
@@ -48,14 +49,27 @@ pub fn kept_name(alloc: Global, word: &Value) -> Result<Option<Text>, AllocError
     }
 }
 
+/// Whether a name has no colon at all, as those of most commands: that is told in less time than
+/// whether two stand side by side.
+fn has_no_colon(name: &str) -> bool
+    ensures { IsTrue result → has_colons name.now ≡ false }
+{
+    for b in name.as_bytes() {
+        if *b == b':' {
+            return false;
+        }
+    }
+    true
+}
+
 /// The command that a word names in the interpreter, where it stands at the place that the word
-/// keeps. This takes no memory.
+/// keeps and has no colon. This takes no memory.
 fn standing<'t>(tree: &'t Tree, place: Place, word: &Value) -> Option<&'t Command>
     ensures { IfSome result (λ command. (p : Path) (n : core.Node Own) → Names tree.now place p →
         tree_of tree.now p ≡ Some n → found n word.now ≡ Ok command.now) }
 {
     let (name, command) = tree.command_kept(place, word)?;
-    if with_colons(name.as_str()) {
+    if !has_no_colon(name.as_str()) {
         return None;
     }
     Some(command)
@@ -81,6 +95,7 @@ pub enum Callee {
 }
 
 /// A command as a call finds it. Where memory is wanting, none.
+#[inline(always)]
 fn callee_of(command: &Command) -> Option<Callee>
     ensures { IfSome result (λ callee. callee_command callee ≡ command.now) }
 {
@@ -94,7 +109,7 @@ fn callee_of(command: &Command) -> Option<Callee>
 
 /// The command that a word names in the interpreter, if it names one. Where memory is wanting,
 /// none.
-#[inline]
+#[inline(always)]
 pub fn callee_named(tree: &Tree, alloc: Global, place: Place, word: &Value) -> Option<Callee>
     ensures { IfSome result (λ callee. (p : Path) (n : core.Node Own) → Names tree.now place p →
         tree_of tree.now p ≡ Some n → found n word.now ≡ Ok (callee_command callee)) }

@@ -31,6 +31,7 @@ fn is_past_white(letter: char) -> bool
 }
 
 /// Whether a text begins and ends with characters that `concat` trims off none of.
+#[inline(always)]
 fn has_full_ends(text: &str) -> bool
     ensures { IsTrue result → trimmed text.now ≡ text.now }
 {
@@ -47,6 +48,7 @@ fn has_full_ends(text: &str) -> bool
 }
 
 /// Whether a single word is put together to itself, told at a glance.
+#[inline(always)]
 pub(crate) fn is_full_word(word: &Value) -> bool
     ensures { IsTrue result → (concatenated (word.now ∷ []) ≡ word.now) ×
         (fits (concatenated (word.now ∷ [])) ≡ true) }

@@ -12,6 +12,7 @@ use tcl_value::value::Value;
 ///
 /// # Errors
 /// Every other end, which is the loop's own.
+#[inline]
 pub fn goes_on(ended: Result<Value, Interruption>) -> Result<bool, Interruption>
     ensures { Turns after_body ended result }
 {
@@ -35,6 +36,7 @@ pub fn goes_on(ended: Result<Value, Interruption>) -> Result<bool, Interruption>
 ///
 /// # Errors
 /// Every other end, which is the loop's own, a `continue` too.
+#[inline]
 pub fn turns_on(ended: Result<Value, Interruption>) -> Result<bool, Interruption>
     ensures { Turns after_next ended result }
 {

@@ -1,7 +1,7 @@
 -- What adding to an integer comes to.
 use Rattle.std.proofs.Common.{◌≡◌, ℤ, pos, Bool, true, false, ◌<◌, List, [], ◌∷◌, length, refl, sym, ap, subst, ◌∙◌, arith, FitsSigned, w64}
 use Rattle.std.specs.Fmt.{signed_decimal}
-use Rattle.std.specs.Prelude.{Result, Ok, Err, codes, ◌+ℤ◌}
+use Rattle.std.specs.Prelude.{Option, Some, None, Result, Ok, Err, codes, ◌+ℤ◌}
 use Rattle.tcl_core.specs.Endings.{Completion, Reply}
 use Rattle.tcl_core.specs.Endings.Reply.{Completed}
 use Rattle.tcl_core.specs.Paths.{Text}
@@ -19,7 +19,8 @@ use Rattle.tcl_tree.specs.TreeOf.{marks_of}
 use Rattle.tcl_tree.specs.declared.tree.Tree.{Tree as Table}
 use Rattle.tcl_tree.specs.declared.tree.Place.{Place as TablePlace}
 use Rattle.tcl_commands.specs.Growing.{Growth, GrowsTo, finishes, grown}
-use Rattle.tcl_commands.specs.Sums.{Number, Reads, added, increment, number_of, number_or, raised, sum_text}
+use Rattle.tcl_commands.specs.Sums.{Number, Reads, added, added_words, increment, number_of, number_or, raised, sum_text}
+use Rattle.tcl_value.proofs.Laws.{int_of-number}
 use Rattle.tcl_commands.proofs.Growths.{grown_acts, on_growth}
 use Rattle.tcl_commands.proofs.Setting.{fits_so}
 
@@ -92,3 +93,11 @@ incr_acts t u place args name (word ∷ []) result e h acts =
     (grown_acts t u place (codes "0") name (λ style. raised style (word ∷ [])) (λ style old k. variables.integer style old (λ n. variables.integer style word (λ m. sum_step (n +ℤ m) k)))
     (λ style old k. two_step (integer_message old) (integer_message word) (in_64_bits (integer_of style old)) (in_64_bits (integer_of style word)) k) result acts)
 incr_acts t u place args name (word ∷ other ∷ more) result e h acts = absurd (omega arith)
+
+-- a number that is added, or 1
+pub few_added : (by : Option ℤ) → length (added_words by) < 2
+few_added None = omega arith
+few_added (Some n) = omega arith
+
+pub number_is_added : (style : Integers) (n : ℤ) → FitsSigned w64 n → increment style (added_words (Some n)) ≡ Ok n
+number_is_added style n fits = ap (number_or (integer_message (signed_decimal n))) (int_of-number style n fits)

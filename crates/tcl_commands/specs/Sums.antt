@@ -1,5 +1,6 @@
 -- What adding to the integer of a text comes to.
 use Rattle.std.specs.Prelude.{◌≡◌, ℤ, pos, List, [], ◌∷◌, Result, Ok, Err, MatchResult, ◌+ℤ◌}
+use Rattle.std.specs.Prelude.{Option, Some, None}
 use Rattle.std.specs.Fmt.{signed_decimal}
 use Rattle.tcl_core.specs.Endings.{Completion}
 use Rattle.tcl_core.specs.Endings.Reply.{Completed}
@@ -30,6 +31,11 @@ number_of style text = number_or (integer_message text) (in_64_bits (integer_of 
 abbrev pub increment : Integers → List Text → Number
 increment style [] = Ok (pos 1)
 increment style (word ∷ words) = number_of style word
+
+-- the words of a number that is added, or of 1, which needs none
+abbrev pub added_words : Option ℤ → List Text
+added_words None = []
+added_words (Some n) = signed_decimal n ∷ []
 
 -- the text of a sum, where it fits 64 bits
 abbrev pub sum_text : ℤ → Growth

@@ -1,6 +1,6 @@
 //! Adding to variables, and the commands that do it to texts and lists: in place, where what a
 //! variable holds isn't shared.
-ghost use Rattle.std.specs.Prelude.{◌≡◌, ◌++◌, Ok, IfErr, OnOk, true};
+ghost use Rattle.std.specs.Prelude.{◌≡◌, ◌++◌, Ok, IfErr, OnOk, true, codes};
 ghost use Rattle.tcl_core.specs.Paths.{Path};
 ghost use Rattle.tcl_language.specs.Data as collections;
 ghost use Rattle.tcl_frames.specs.Chain.{read};
@@ -12,9 +12,10 @@ ghost use Rattle.tcl_run.specs.declared.interruption.Interruption.TheVariants.{M
 ghost use Rattle.tcl_tree.specs.TreeOf.{Names};
 ghost use Rattle.tcl_commands.specs.Growing.{appended, lengthened, grown, finishes, Grows, GrowsTo};
 ghost use Rattle.tcl_commands.specs.GrowthKinds.{first_of, grown_by};
+ghost use Rattle.tcl_commands.specs.Sums.{added_words, raised};
 
 use crate::steps::is_missing;
-use crate::sums::raise;
+use crate::sums::{raise, raise_by, raise_value};
 use std::alloc::Global;
 use tcl_frames::fault::FrameError;
 use tcl_frames::frames::Frames;
@@ -70,6 +71,8 @@ pub(crate) enum Growth {
     /// What is added to its integer, in this style of integer texts: that of the first word, or 1
     /// where there is none.
     Sum(Integers),
+    /// A number that is added to its integer, in this style of integer texts, or 1.
+    Number(Integers, Option<i64>),
 }
 
 /// Adds the texts of values to that of a value, and gives what it then is.
@@ -108,6 +111,7 @@ fn grow_value(
         Growth::Texts => append_texts(alloc, value, more),
         Growth::Elements => append_elements(alloc, value, more),
         Growth::Sum(style) => raise(style, alloc, value, more),
+        Growth::Number(style, by) => raise_by(style, alloc, value, by),
     }
 }
 
@@ -119,6 +123,7 @@ fn first_value(growth: Growth) -> Value
         Growth::Texts => Value::empty(),
         Growth::Elements => Value::empty(),
         Growth::Sum(_) => Value::from_int(0),
+        Growth::Number(_, _) => Value::from_int(0),
     }
 }
 
@@ -203,6 +208,48 @@ pub(crate) fn grow_variable(
 {
     match tree.frames_of(place) {
         Some(frames) => grow_near(frames, alloc, name, growth, more),
+        None => unreachable!(),
+    }
+}
+
+/// Adds a number, or 1, to the integer of a variable, in a style of integer texts.
+#[inline]
+fn raise_near(
+    frames: &mut Frames,
+    alloc: Global,
+    style: Integers,
+    name: &VariableName,
+    by: Option<i64>,
+) -> Result<Value, Interruption>
+    ensures { Grows (codes "0") frames.old name.now (raised style (added_words by)) frames.new
+        result }
+{
+    if let Some(value) = frames.scalar_mut_near(name) {
+        return raise_value(style, alloc, value, by);
+    }
+    grow(frames, alloc, name.text(), Growth::Number(style, by), &[])
+}
+
+/// Adds a number, or 1, to the integer of a variable of the interpreter that the place names, in a
+/// style of integer texts.
+#[inline]
+pub(crate) fn raise_variable(
+    tree: &mut Tree,
+    alloc: Global,
+    place: Place,
+    style: Integers,
+    name: &VariableName,
+    by: Option<i64>,
+) -> Result<Value, Interruption>
+    requires { (p : Path) × Names tree.old place p }
+    ensures acts { Acts tree.old place
+        (λ _. look (λ n. finishes n.own
+        (grown (codes "0") n.own.chain name.now (raised style (added_words by))))) tree.new
+        result }
+    ensures level { IsLevel tree.old tree.new }
+{
+    match tree.frames_of(place) {
+        Some(frames) => raise_near(frames, alloc, style, name, by),
         None => unreachable!(),
     }
 }

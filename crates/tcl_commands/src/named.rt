@@ -8,8 +8,10 @@ ghost use Rattle.tcl_run.specs.Plain.{Acts};
 ghost use Rattle.tcl_run.specs.Runs.{IsLevel};
 ghost use Rattle.tcl_tree.specs.TreeOf.{Names};
 ghost use Rattle.tcl_commands.specs.Named.{builtin_of, words_of};
+ghost use Rattle.tcl_commands.specs.Sums.{added_words};
+ghost use Rattle.tcl_interpreter.specs.declared.builtin.Builtin.TheVariants as name;
 
-use crate::growing::{Growth, grow_variable};
+use crate::growing::{Growth, grow_variable, raise_variable};
 use crate::steps::set_variable_near;
 use std::alloc::Global;
 use tcl_frames::variable_name::VariableName;
@@ -23,8 +25,10 @@ use tcl_value::value::Value;
 pub enum VariableChange {
     /// `set varName newValue`.
     Set(Value),
-    /// `incr varName ?increment?`.
-    Incr(Option<Value>),
+    /// `incr varName ?increment?` of a number at hand.
+    Raise(Option<i64>),
+    /// `incr varName increment`.
+    Incr(Value),
     /// `append varName value`.
     Append(Value),
     /// `lappend varName value`.
@@ -32,6 +36,17 @@ pub enum VariableChange {
 }
 
 impl VariableChange {
+    /// The change that `incr` makes with one word behind the variable's name.
+    #[inline(always)]
+    fn of_increment(word: Value) -> VariableChange
+        ensures { (builtin_of result ≡ name.Incr) × (words_of result ≡ word ∷ []) }
+    {
+        match word.number() {
+            Some(n) => VariableChange::Raise(Some(n)),
+            None => VariableChange::Incr(word),
+        }
+    }
+
     /// The change that a built-in command makes with one word behind the variable's name, if it is
     /// one of these.
     pub fn of_word(builtin: Builtin, word: Value) -> Option<VariableChange>
@@ -40,7 +55,7 @@ impl VariableChange {
     {
         match builtin {
             Builtin::Set => Some(VariableChange::Set(word)),
-            Builtin::Incr => Some(VariableChange::Incr(Some(word))),
+            Builtin::Incr => Some(VariableChange::of_increment(word)),
             Builtin::Append => Some(VariableChange::Append(word)),
             Builtin::Lappend => Some(VariableChange::Lappend(word)),
             _ => None,
@@ -67,21 +82,38 @@ fn set(
 }
 
 /// `incr` of a variable.
+#[inline(never)]
 fn incr(
     tree: &mut Tree,
     alloc: Global,
     place: Place,
     name: &VariableName,
-    words: &[Value],
+    by: Value,
 ) -> Result<Value, Interruption>
     requires names { (p : Path) × Names tree.old place p }
-    requires few { length words.now < 2 }
     ensures acts { Acts tree.old place
-        (λ style. variables.incr style (name.now ∷ words.now)) tree.new result }
+        (λ style. variables.incr style (name.now ∷ by ∷ [])) tree.new result }
     ensures level { IsLevel tree.old tree.new }
 {
     let growth = Growth::Sum(tree.integers());
-    grow_variable(tree, alloc, place, name, growth, words)
+    grow_variable(tree, alloc, place, name, growth, &[by])
+}
+
+/// `incr` of a variable by a number at hand, or 1.
+#[inline]
+fn raise(
+    tree: &mut Tree,
+    alloc: Global,
+    place: Place,
+    name: &VariableName,
+    by: Option<i64>,
+) -> Result<Value, Interruption>
+    requires { (p : Path) × Names tree.old place p }
+    ensures acts { Acts tree.old place
+        (λ style. variables.incr style (name.now ∷ added_words by)) tree.new result }
+    ensures level { IsLevel tree.old tree.new }
+{
+    raise_variable(tree, alloc, place, tree.integers(), name, by)
 }
 
 /// `append` to a variable.
@@ -135,8 +167,8 @@ pub fn change_variable(
 {
     match change {
         VariableChange::Set(value) => set(tree, alloc, place, name, value),
-        VariableChange::Incr(Some(by)) => incr(tree, alloc, place, name, &[by]),
-        VariableChange::Incr(None) => incr(tree, alloc, place, name, &[]),
+        VariableChange::Raise(by) => raise(tree, alloc, place, name, by),
+        VariableChange::Incr(by) => incr(tree, alloc, place, name, by),
         VariableChange::Append(value) => append(tree, alloc, place, name, value),
         VariableChange::Lappend(value) => lappend(tree, alloc, place, name, value),
     }

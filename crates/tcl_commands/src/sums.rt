@@ -6,7 +6,7 @@ ghost use Rattle.tcl_core.specs.Endings.Reply.{Completed};
 ghost use Rattle.tcl_language.specs.Variables as variables;
 ghost use Rattle.tcl_run.specs.Ends.{Interrupts, failing};
 ghost use Rattle.tcl_commands.specs.Growing.{GrowsTo};
-ghost use Rattle.tcl_commands.specs.Sums.{Reads, increment, raised, sum_text};
+ghost use Rattle.tcl_commands.specs.Sums.{Reads, added_words, increment, raised, sum_text};
 
 use crate::steps::{integer, integer_of};
 use std::alloc::Global;
@@ -82,6 +82,60 @@ pub(crate) fn raise(
         return Ok(Value::from_int(sum));
     }
     raise_read(style, alloc, value, words)
+}
+
+/// What is added: the number, or 1.
+fn number_added(by: Option<i64>) -> i64
+    ensures { (style : Integers) → increment style (added_words by) ≡ Ok result }
+{
+    match by {
+        Some(n) => n,
+        None => 1,
+    }
+}
+
+/// The sum of a value and a number, or 1, where the value is a number at hand and it has 64 bits.
+#[inline(always)]
+fn sum_with(value: &Value, by: Option<i64>) -> Option<i64>
+    ensures { IfSome result (λ sum. (style : Integers) →
+        raised style (added_words by) value.now ≡ Ok (signed_decimal sum)) }
+{
+    let n = value.number()?;
+    let increment = number_added(by);
+    n.checked_add(increment)
+}
+
+/// Adds a number, or 1, to the integer of a value, and gives what it then is.
+#[inline(always)]
+pub(crate) fn raise_value(
+    style: Integers,
+    alloc: Global,
+    value: &mut Value,
+    by: Option<i64>,
+) -> Result<Value, Interruption>
+    ensures { GrowsTo value.old (raised style (added_words by)) value.new result }
+{
+    if let Some(sum) = sum_with(value, by) {
+        value.set_int(sum);
+        return Ok(Value::from_int(sum));
+    }
+    raise_by(style, alloc, value, by)
+}
+
+/// The same, whose integer is read. It isn't inlined, so that numbers at hand cost little.
+#[inline(never)]
+pub(crate) fn raise_by(
+    style: Integers,
+    alloc: Global,
+    value: &mut Value,
+    by: Option<i64>,
+) -> Result<Value, Interruption>
+    ensures { GrowsTo value.old (raised style (added_words by)) value.new result }
+{
+    match by {
+        Some(n) => raise_read(style, alloc, value, &[Value::from_int(n)]),
+        None => raise_read(style, alloc, value, &[]),
+    }
 }
 
 /// The same, whose integers are read.

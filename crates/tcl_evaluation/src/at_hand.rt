@@ -8,7 +8,8 @@ ghost use Rattle.tcl_evaluation.specs.Sums.{CallsAtHand, CallsBuiltin, CallsBuil
 ghost use Rattle.tcl_evaluation.specs.Sums.{CallsNamed, CallsOnHand};
 
 use crate::calls::call_plain_command;
-use crate::commands::{call_builtin, call_command};
+use crate::commands::{call_builtin, call_command, call_procedure};
+use crate::expressions::if_first;
 use crate::hands::{end_at_hand, is_plain, one_of};
 use crate::sums::count_sum;
 use std::alloc::Global;
@@ -45,6 +46,9 @@ pub(crate) fn call_known<O: Outside>(
         return call_plain_command(tree, alloc, outside, place, builtin, args);
     }
     charge(tree, outside, place)?;
+    if let Builtin::If = builtin {
+        return if_first(tree, alloc, outside, place, args);
+    }
     call_builtin(tree, alloc, outside, place, builtin, args)
 }
 
@@ -72,6 +76,9 @@ pub(crate) fn call_named<O: Outside>(
         return call_known(tree, alloc, outside, place, *builtin, args);
     }
     charge(tree, outside, place)?;
+    if let Command::Procedure(procedure) = command {
+        return call_procedure(tree, alloc, outside, place, procedure, word, args);
+    }
     call_command(tree, alloc, outside, place, command, word, args)
 }
 

@@ -42,7 +42,7 @@ fn change_of_words(
 {
     match words {
         [] => match builtin {
-            Builtin::Incr => Some((VariableChange::Incr(None), false)),
+            Builtin::Incr => Some((VariableChange::Raise(None), false)),
             _ => None,
         },
         [word] => {

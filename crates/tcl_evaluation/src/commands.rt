@@ -164,7 +164,7 @@ pub(crate) fn call_builtin<O: Outside>(
 /// 241 of its own form; 122 of a list of arguments; those of the body, as they leave a procedure;
 /// want of memory.
 #[cycle(eval)]
-fn call_procedure<O: Outside>(
+pub(crate) fn call_procedure<O: Outside>(
     tree: &mut Tree,
     alloc: Global,
     outside: &mut O,

@@ -91,6 +91,7 @@ pub fn eval_text<O: Outside>(
 /// # Errors
 /// Those of a script.
 #[cycle(eval)]
+#[inline(always)]
 pub fn eval_value<O: Outside>(
     tree: &mut Tree,
     alloc: Global,
@@ -250,7 +251,7 @@ pub(crate) fn eval_word<O: Outside>(
 
 /// The text of a word that is one part: it is shared, and not copied.
 #[cycle(eval)]
-fn eval_lone_part<O: Outside>(
+pub(crate) fn eval_lone_part<O: Outside>(
     tree: &mut Tree,
     alloc: Global,
     outside: &mut O,

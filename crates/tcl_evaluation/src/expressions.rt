@@ -234,6 +234,7 @@ fn if_many<O: Outside>(
 /// A turn of a loop with a condition: whether the loop goes on. Where the condition holds, the turn
 /// is counted and the body runs, whose script was read before.
 #[cycle(eval)]
+#[inline(always)]
 fn turn<O: Outside>(
     tree: &mut Tree,
     alloc: Global,

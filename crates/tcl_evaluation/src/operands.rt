@@ -4,9 +4,10 @@ ghost use Rattle.tcl_language.specs.Scripts as scripts;
 ghost use Rattle.tcl_run.specs.Ends.{OnCompletion};
 ghost use Rattle.tcl_run.specs.Runs.{IsHere, IsRunning, Keeps, ProceedsIn, ways};
 
-use crate::evaluation::eval_word;
+use crate::evaluation::{eval_lone_part, eval_word};
 use std::alloc::Global;
 use tcl_prepared::operand::Operand;
+use tcl_prepared::prepared::PreparedWord;
 use tcl_run::interruption::Interruption;
 use tcl_run::outside::Outside;
 use tcl_run::steps::read_named;
@@ -34,6 +35,9 @@ pub fn eval_operand<O: Outside>(
 {
     match operand.variable() {
         Some(name) => read_named(tree, alloc, place, name),
-        None => eval_word(tree, alloc, outside, place, operand.word()),
+        None => match operand.word() {
+            PreparedWord::Lone(part) => eval_lone_part(tree, alloc, outside, place, part),
+            word => eval_word(tree, alloc, outside, place, word),
+        },
     }
 }

@@ -162,6 +162,7 @@ pub fn holds(comparison: Comparison, order: Ordering) -> bool
 ///
 /// # Errors
 /// 212, 213, 215 and 216 of the numbers.
+#[inline(always)]
 pub fn compute(operator: Arithmetic, x: i64, y: i64) -> Result<i64, ArithmeticFault>
     ensures { result ≡ in_range (computed operator x y) }
 {

@@ -70,6 +70,14 @@ fn stands_at<V>(entries: &[(Text, V)], place: usize, name: &Text) -> bool
     place < entries.len() && entries[place].0 == *name
 }
 
+/// Whether a name of at most eight bytes stands at a place, told without a look at longer ones.
+#[inline(always)]
+fn stands_short_at<V>(entries: &[(Text, V)], place: usize, name: &Text) -> bool
+    ensures { IsTrue result → Holds name.now entries.now place }
+{
+    place < entries.len() && entries[place].0.is_same_short(name)
+}
+
 /// The place at which a name stands, from 0, which the name keeps. It isn't inlined, so that a name
 /// that stands where it was found last costs little.
 #[inline(never)]
@@ -134,6 +142,26 @@ impl<V> FewNames<V> {
             Some(place) => Some(&self.entries[place].1),
             None => None,
         }
+    }
+
+    /// Whether a name of at most eight bytes stands where it was found last. A hint, of which
+    /// contracts say nothing.
+    #[inline(always)]
+    pub fn is_short_near(&self, name: &VariableName) -> bool {
+        stands_short_at(self.entries.as_slice(), name.hint(), name.text())
+    }
+
+    /// What a name of at most eight bytes has, where it stands where it was found last, and
+    /// otherwise none: no other names are looked through.
+    #[inline(always)]
+    pub fn get_short(&self, name: &VariableName) -> Option<&V>
+        ensures { IfSome result (λ v. lookup (bytes_eq name.now) self.now ≡ Some v.now) }
+    {
+        let place = name.hint();
+        if stands_short_at(self.entries.as_slice(), place, name.text()) {
+            return Some(&self.entries[place].1);
+        }
+        None
     }
 
     /// The place of a name in the order of insertion, from 0, and what it has.
@@ -209,6 +237,23 @@ impl<V> FewNames<V> {
             },
             None => None,
         }
+    }
+
+    /// What a name of at most eight bytes has, to write, where it stands where it was found last,
+    /// and otherwise none: no other names are looked through.
+    #[inline(always)]
+    pub fn get_mut_short(&mut self, name: &VariableName) -> Option<&mut V>
+        ensures* writes_back { sem 𝓛 (lends_few V.row self.entry name.now result) }
+        ensures value { IfSome result (λ v. lookup (bytes_eq name.now) self.old ≡ Some v.now) }
+    {
+        let place = name.hint();
+        if stands_short_at(self.entries.as_slice(), place, name.text()) {
+            return match self.entries.get_mut(place) {
+                Some(entry) => Some(&mut entry.1),
+                None => None,
+            };
+        }
+        None
     }
 
     /// The same, in less time where the name stands where it was found last.

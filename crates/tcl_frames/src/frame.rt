@@ -179,6 +179,26 @@ impl Frame {
         self.variables.get_hinted(name)
     }
 
+    /// Whether a name of at most eight bytes stands where it was found last, among few. A hint, of
+    /// which contracts say nothing.
+    #[inline(always)]
+    pub fn is_short_near(&self, name: &VariableName) -> bool {
+        self.variables.is_short_near(name)
+    }
+
+    /// The value that a name of at most eight bytes stands for, where it stands for one where it
+    /// was found last, and otherwise none.
+    #[inline(always)]
+    pub fn scalar_short(&self, name: &VariableName) -> Option<&Value>
+        ensures { IfSome result
+            (λ v. lookup (bytes_eq name.now) self.now.variables ≡ Some (Scalar v.now)) }
+    {
+        match self.variables.get_short(name) {
+            Some(Variable::Scalar(value)) => Some(value),
+            _ => None,
+        }
+    }
+
     /// The value that a name stands for, where it stands for one, in less time where the name
     /// stands where it was found last.
     pub fn scalar_near(&self, name: &VariableName) -> Option<&Value>
@@ -527,6 +547,20 @@ impl Frame {
         match self.variables.get_mut_near(place, base) {
             Some(found) => found.value_mut(part, name),
             None => Err(unread(part, name)),
+        }
+    }
+
+    /// The value that a name of at most eight bytes stands for, to write, where it stands for one
+    /// where it was found last, and otherwise none.
+    #[inline(always)]
+    pub fn scalar_mut_short(&mut self, name: &VariableName) -> Option<&mut Value>
+        ensures* writes_back { sem 𝓛 (LendsScalar self.entry name.now result) }
+        ensures scalar { IfSome result
+            (λ v. lookup (bytes_eq name.now) self.old.variables ≡ Some (Scalar v.now)) }
+    {
+        match self.variables.get_mut_short(name) {
+            Some(variable) => variable.as_scalar_mut(),
+            None => None,
         }
     }
 

@@ -86,6 +86,28 @@ impl<V> NameMap<V> {
         }
     }
 
+    /// Whether a name of at most eight bytes stands where it was found last, among few. A hint, of
+    /// which contracts say nothing.
+    #[inline(always)]
+    pub fn is_short_near(&self, name: &VariableName) -> bool {
+        match &self.entries {
+            Entries::Few(few) => few.is_short_near(name),
+            Entries::Many(_) => false,
+        }
+    }
+
+    /// What a name of at most eight bytes has, where it stands where it was found last, among few,
+    /// and otherwise none.
+    #[inline(always)]
+    pub fn get_short(&self, name: &VariableName) -> Option<&V>
+        ensures { IfSome result (λ v. lookup (bytes_eq name.now) self.now ≡ Some v.now) }
+    {
+        match &self.entries {
+            Entries::Few(few) => few.get_short(name),
+            Entries::Many(_) => None,
+        }
+    }
+
     /// The entry at a place in the order of insertion, from 0. This takes no memory.
     pub fn entry(&self, index: usize) -> Option<(&str, &V)>
         ensures { option_map lent_entry result ≡ slice_get self.now index }
@@ -132,6 +154,19 @@ impl<V> NameMap<V> {
         match &mut self.entries {
             Entries::Few(few) => few.get_mut_near(place, name),
             Entries::Many(many) => many.get_mut_near(place, name),
+        }
+    }
+
+    /// What a name of at most eight bytes has, to write, where it stands where it was found last,
+    /// among few, and otherwise none.
+    #[inline(always)]
+    pub fn get_mut_short(&mut self, name: &VariableName) -> Option<&mut V>
+        ensures* writes_back { sem 𝓛 (lends_named V.row self.entry name.now result) }
+        ensures value { IfSome result (λ v. lookup (bytes_eq name.now) self.old ≡ Some v.now) }
+    {
+        match &mut self.entries {
+            Entries::Few(few) => few.get_mut_short(name),
+            Entries::Many(_) => None,
         }
     }
 

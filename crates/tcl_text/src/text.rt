@@ -1,5 +1,6 @@
 //! Texts that are shared, and are changed in place where they are not.
 ghost use Rattle.std.specs.Prelude.{◌≡◌, ◌++◌, ◌==◌, length, IfOk, OnOk, OnErr};
+ghost use Rattle.std.specs.Prelude.{IsTrue};
 ghost use Rattle.std.specs.String.{string_bytes};
 ghost use Rattle.tcl_text.specs.Eight.{eight, IsFront};
 
@@ -145,6 +146,19 @@ impl Text {
         ensures { result ≡ (length self.now == 0) }
     {
         self.as_str().is_empty()
+    }
+
+    /// Whether it is the other, told by their first bytes alone, so that longer ones aren't looked
+    /// at: of texts of more than eight bytes this says nothing.
+    #[inline(always)]
+    pub fn is_same_short(&self, other: &Text) -> bool
+        ensures { IsTrue result → self.now ≡ other.now }
+    {
+        let (text, others) = (self.as_str(), other.as_str());
+        if self.shared.front != other.shared.front || text.len() != others.len() {
+            return false;
+        }
+        text.len() <= 8
     }
 
     /// Adds to its end: in place where the text isn't shared, and otherwise to a copy of its own.

@@ -283,6 +283,30 @@ at_hand::call_known-returns-in_err-charge-clause-here g t c = on_completion c.fr
 pub at_hand::call_known-returns-in_err-charge-clause-keeps : goal.at_hand::call_known-returns-in_err-charge-clause-keeps
 at_hand::call_known-returns-in_err-charge-clause-keeps g t c = charged_keeps c.charge.ensures.level c.charge.ensures.left
 
+pub at_hand::call_known-if_first-requires : goal.at_hand::call_known-if_first-requires
+at_hand::call_known-if_first-requires g t c κs within = (search rules, (search rules, still_running c.args.tree.now c.charge.new.tree c.args.place (level_here c.args.tree.now c.charge.new.tree c.args.place c.charge.ensures.level) c.requires))
+
+pub at_hand::call_known-returns-in-If-clause-runs : goal.at_hand::call_known-returns-in-If-clause-runs
+at_hand::call_known-returns-in-If-clause-runs g t c =
+    let named_so = command.Builtin c.args.builtin in
+    let args = c.args.args.now in
+    IfRan-more c.if_first.result
+    (EndsFrom (ways g.O.Outside.goes g.O.Outside.loses) c.charge.new.tree c.charge.new.outside c.args.place (λ style. if_first style args) c.if_first.new.tree c.if_first.new.outside)
+    (CallsBuiltin (ways g.O.Outside.goes g.O.Outside.loses) c.args.tree.now c.args.outside.now c.args.place c.args.builtin args c.if_first.new.tree c.if_first.new.outside)
+    (λ e h word q style n at there named.
+    let counts = c.in_ok-charge.ensures.counted q at.names in
+    let m = charged_own (tree_of c.args.tree.now) (tree_of c.charge.new.tree) q q n counts.counted there in
+    Steps.charged_calls style (word ∷ args) (omega arith) counts
+    (call_found style word args named_so m.1 (named_own n m.0 word named_so m.2 named)
+    (at_prog (ap (λ (b : Builtin). builtin_program style b args) c.in-If.is) (h q style (still_at c.args.tree.now c.charge.new.tree c.args.place q style (level_here c.args.tree.now c.charge.new.tree c.args.place c.charge.ensures.level) at)))))
+    c.if_first.ensures.runs
+
+pub at_hand::call_known-returns-in-If-clause-here : goal.at_hand::call_known-returns-in-If-clause-here
+at_hand::call_known-returns-in-If-clause-here g t c = here_then c.if_first.result c.args.tree.now c.charge.new.tree c.if_first.new.tree c.args.place (level_here c.args.tree.now c.charge.new.tree c.args.place c.charge.ensures.level) c.if_first.ensures.here
+
+pub at_hand::call_known-returns-in-If-clause-keeps : goal.at_hand::call_known-returns-in-If-clause-keeps
+at_hand::call_known-returns-in-If-clause-keeps g t c = keeps-trans (charged_keeps c.charge.ensures.level c.charge.ensures.left) c.if_first.ensures.keeps
+
 pub at_hand::call_known-call_builtin-requires : goal.at_hand::call_known-call_builtin-requires
 at_hand::call_known-call_builtin-requires g t c κs within = (search rules, (search rules, still_running c.args.tree.now c.charge.new.tree c.args.place (level_here c.args.tree.now c.charge.new.tree c.args.place c.charge.ensures.level) c.requires))
 
@@ -325,6 +349,30 @@ at_hand::call_named-returns-in_err-charge-clause-here g t c = on_completion c.fr
 
 pub at_hand::call_named-returns-in_err-charge-clause-keeps : goal.at_hand::call_named-returns-in_err-charge-clause-keeps
 at_hand::call_named-returns-in_err-charge-clause-keeps g t c = charged_keeps c.charge.ensures.level c.charge.ensures.left
+
+pub at_hand::call_named-call_procedure-requires : goal.at_hand::call_named-call_procedure-requires
+at_hand::call_named-call_procedure-requires g t c κs within = (search rules, (search rules, still_running c.args.tree.now c.charge.new.tree c.args.place (level_here c.args.tree.now c.charge.new.tree c.args.place c.charge.ensures.level) c.requires))
+
+pub at_hand::call_named-returns-in-Procedure-clause-runs : goal.at_hand::call_named-returns-in-Procedure-clause-runs
+at_hand::call_named-returns-in-Procedure-clause-runs g t c =
+    let word = c.args.word.now in
+    let args = c.args.args.now in
+    IfRan-more c.call_procedure.result
+    (EndsFrom (ways g.O.Outside.goes g.O.Outside.loses) c.charge.new.tree c.charge.new.outside c.args.place (λ style. procedure c.in-Procedure.procedure word args) c.call_procedure.new.tree c.call_procedure.new.outside)
+    (CallsNamed (ways g.O.Outside.goes g.O.Outside.loses) c.args.tree.now c.args.outside.now c.args.place c.args.command.now word args c.call_procedure.new.tree c.call_procedure.new.outside)
+    (λ e h q style n at there named.
+    let counts = c.in_ok-charge.ensures.counted q at.names in
+    let m = charged_own (tree_of c.args.tree.now) (tree_of c.charge.new.tree) q q n counts.counted there in
+    Steps.charged_calls style (word ∷ args) (omega arith) counts
+    (call_found style word args c.args.command.now m.1 (named_own n m.0 word c.args.command.now m.2 named)
+    (at_prog (ap (λ (x : Command). dispatch style word args invalid_command (Some x)) c.in-Procedure.is) (h q style (still_at c.args.tree.now c.charge.new.tree c.args.place q style (level_here c.args.tree.now c.charge.new.tree c.args.place c.charge.ensures.level) at)))))
+    c.call_procedure.ensures.runs
+
+pub at_hand::call_named-returns-in-Procedure-clause-here : goal.at_hand::call_named-returns-in-Procedure-clause-here
+at_hand::call_named-returns-in-Procedure-clause-here g t c = here_then c.call_procedure.result c.args.tree.now c.charge.new.tree c.call_procedure.new.tree c.args.place (level_here c.args.tree.now c.charge.new.tree c.args.place c.charge.ensures.level) c.call_procedure.ensures.here
+
+pub at_hand::call_named-returns-in-Procedure-clause-keeps : goal.at_hand::call_named-returns-in-Procedure-clause-keeps
+at_hand::call_named-returns-in-Procedure-clause-keeps g t c = keeps-trans (charged_keeps c.charge.ensures.level c.charge.ensures.left) c.call_procedure.ensures.keeps
 
 pub at_hand::call_named-call_command-requires : goal.at_hand::call_named-call_command-requires
 at_hand::call_named-call_command-requires g t c κs within = (search rules, (search rules, still_running c.args.tree.now c.charge.new.tree c.args.place (level_here c.args.tree.now c.charge.new.tree c.args.place c.charge.ensures.level) c.requires))
@@ -1410,12 +1458,12 @@ operands::eval_operand-returns-in-Some-clause-runs g t c =
 pub operands::eval_operand-returns-in-Some-clause-here : goal.operands::eval_operand-returns-in-Some-clause-here
 operands::eval_operand-returns-in-Some-clause-here g t c = unmoved c.read_named.result c.args.tree.now c.args.place
 
-pub operands::eval_operand-returns-in-None-clause-runs : goal.operands::eval_operand-returns-in-None-clause-runs
-operands::eval_operand-returns-in-None-clause-runs g t c =
-    IfRan-more c.eval_word.result
-    (EndsFrom (ways g.O.Outside.goes g.O.Outside.loses) c.args.tree.now c.args.outside.now c.args.place (λ style. parts (seen_word c.word.result.now).parts [] []) c.eval_word.new.tree c.eval_word.new.outside)
-    (EndsFrom (ways g.O.Outside.goes g.O.Outside.loses) c.args.tree.now c.args.outside.now c.args.place (λ style. parts c.args.operand.now.parts [] []) c.eval_word.new.tree c.eval_word.new.outside)
-    (λ e h q style at. at_prog (ap (λ (w : WordRead). parts w.parts [] []) (sym c.word.ensures)) (h q style at)) c.eval_word.ensures.runs
+pub operands::eval_operand-returns-in-Lone-clause-runs : goal.operands::eval_operand-returns-in-Lone-clause-runs
+operands::eval_operand-returns-in-Lone-clause-runs g t c =
+    IfRan-more c.eval_lone_part.result
+    (EndsFrom (ways g.O.Outside.goes g.O.Outside.loses) c.args.tree.now c.args.outside.now c.args.place (λ style. parts (seen_part c.in-Lone.part ∷ []) [] []) c.eval_lone_part.new.tree c.eval_lone_part.new.outside)
+    (EndsFrom (ways g.O.Outside.goes g.O.Outside.loses) c.args.tree.now c.args.outside.now c.args.place (λ style. parts c.args.operand.now.parts [] []) c.eval_lone_part.new.tree c.eval_lone_part.new.outside)
+    (λ e h q style at. at_prog (ap (λ (w : WordRead). parts w.parts [] []) (sym c.word.ensures ∙ ap seen_word c.in-Lone.is)) (h q style at)) c.eval_lone_part.ensures.runs
 
 -- # Expressions, and the commands with conditions
 

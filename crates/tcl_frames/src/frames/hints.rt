@@ -12,9 +12,24 @@ use std::alloc::{AllocError, Global};
 use tcl_value::value::Value;
 
 impl Frames {
-    /// The value that a name holds, if it is that of a variable of the current frame and no array
-    /// or link. This takes no memory.
-    pub fn scalar_near(&self, name: &VariableName) -> Option<&Value>
+    /// The value that a name of at most eight bytes holds, if it is that of a variable of the
+    /// current frame that stands where it was found last, and otherwise none.
+    #[inline(always)]
+    fn scalar_short(&self, name: &VariableName) -> Option<&Value>
+        ensures { IfSome result (λ value. read self.now.frames name.now ≡ Ok value.now) }
+    {
+        if !name.is_simple() {
+            return None;
+        }
+        match self.frames.last() {
+            Some(frame) => frame.scalar_short(name),
+            None => None,
+        }
+    }
+
+    /// The same of any name.
+    #[inline(never)]
+    fn scalar_sought(&self, name: &VariableName) -> Option<&Value>
         ensures { IfSome result (λ value. read self.now.frames name.now ≡ Ok value.now) }
     {
         if !name.is_simple() {
@@ -23,6 +38,18 @@ impl Frames {
         match self.frames.last() {
             Some(frame) => frame.scalar_near(name),
             None => None,
+        }
+    }
+
+    /// The value that a name holds, if it is that of a variable of the current frame and no array
+    /// or link. This takes no memory.
+    #[inline(always)]
+    pub fn scalar_near(&self, name: &VariableName) -> Option<&Value>
+        ensures { IfSome result (λ value. read self.now.frames name.now ≡ Ok value.now) }
+    {
+        match self.scalar_short(name) {
+            Some(value) => Some(value),
+            None => self.scalar_sought(name),
         }
     }
 
@@ -40,9 +67,50 @@ impl Frames {
         }
     }
 
+    /// Whether a name of at most eight bytes stands in the current frame where it was found last. A
+    /// hint, of which contracts say nothing.
+    #[inline(always)]
+    fn is_short_near(&self, name: &VariableName) -> bool {
+        match self.frames.last() {
+            Some(frame) => frame.is_short_near(name),
+            None => false,
+        }
+    }
+
     /// The same value as that of [`Frames::scalar_near`], to write: once the borrow ends, the chain
     /// is as after [`Frames::set`] of the value that was left. This takes no memory.
+    #[inline(always)]
     pub fn scalar_mut_near(&mut self, name: &VariableName) -> Option<&mut Value>
+        ensures* writes_back { sem 𝓛 (LendsNear self.entry name.now result) }
+        ensures scalar { IfSome result (λ v. read self.old.frames name.now ≡ Ok v.now) }
+    {
+        if self.is_short_near(name) {
+            return self.scalar_mut_short(name);
+        }
+        self.scalar_mut_sought(name)
+    }
+
+    /// The same of a name of at most eight bytes that stands where it was found last, and otherwise
+    /// none.
+    #[inline(always)]
+    fn scalar_mut_short(&mut self, name: &VariableName) -> Option<&mut Value>
+        ensures* writes_back { sem 𝓛 (LendsNear self.entry name.now result) }
+        ensures scalar { IfSome result (λ v. read self.old.frames name.now ≡ Ok v.now) }
+    {
+        if !name.is_simple() {
+            return None;
+        }
+        let level = self.level();
+        let frame = &mut self.frames[level];
+        match frame.scalar_mut_short(name) {
+            Some(value) => Some(value),
+            None => None,
+        }
+    }
+
+    /// The same of any name.
+    #[inline(never)]
+    fn scalar_mut_sought(&mut self, name: &VariableName) -> Option<&mut Value>
         ensures* writes_back { sem 𝓛 (LendsNear self.entry name.now result) }
         ensures scalar { IfSome result (λ v. read self.old.frames name.now ≡ Ok v.now) }
     {

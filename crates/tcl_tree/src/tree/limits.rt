@@ -1,8 +1,11 @@
 //! Steps and levels: what is counted in an interpreter and in all above it.
 ghost use Rattle.std.specs.Prelude.{◌≡◌, ◌++◌, List, ℕ, IfOk, IfErr, OnOk, OnErr, Some, None, []};
-ghost use Rattle.std.specs.Prelude.{IsSome, ◌≢◌};
+ghost use Rattle.std.specs.Prelude.{IsSome, ◌≢◌, IfSome};
+ghost use Rattle.std.specs.Bool.{OnTrue, OnFalse};
+ghost use Rattle.slab.specs.Slab.{get};
+ghost use Rattle.tcl_interpreter.specs.declared.node.Node.{Node};
 
-use crate::tree::meters::raise;
+use crate::tree::meters::{raise, raise_alone};
 use crate::tree::{Place, Tree};
 use tcl_interpreter::node::{MOST_STEPS, Meter};
 use tcl_interpreter::refusal::TreeError;
@@ -23,6 +26,25 @@ impl Tree {
     ghost use Rattle.tcl_tree.specs.Gone.{held_of, Holds};
     ghost use Rattle.tcl_tree.specs.Held.{Deepens, Shallows, IsInnermost};
     ghost use Rattle.tcl_interpreter.specs.declared.node.Meter.TheVariants.{Steps, Levels, Back};
+
+    // Whether a meter of the interpreter is full, where it has none above it.
+    #[inline(always)]
+    fn full_alone(&self, key: usize, meter: Meter) -> Option<bool>
+        requires { (p : List (List ℕ)) × (key_of self.now p ≡ Some key) }
+        ensures full { IfSome result (λ full. OnTrue full ((p : List (List ℕ)) →
+            key_of self.now p ≡ Some key →
+            IsNearestFull (full_of meter) (tree_of self.now) p 0)) }
+        ensures room { IfSome result (λ full. OnFalse full ((p : List (List ℕ)) →
+            key_of self.now p ≡ Some key → NoneFull (full_of meter) (tree_of self.now) p)) }
+        ensures alone { IfSome result (λ _. (node : Node) → get self.now.nodes key ≡ Some node →
+            node.parent ≡ None) }
+    {
+        let node = self.nodes.get(key)?;
+        if node.parent.is_some() {
+            return None;
+        }
+        Some(node.state.is_full(meter))
+    }
 
     // Moves a meter of the interpreter and of those above it, or says how many levels up it is
     // full.
@@ -46,6 +68,13 @@ impl Tree {
         ensures deeper { OnOk result
             (meter ≡ Levels → Deepens (held_of self.old) key (held_of self.new)) }
     {
+        if let Some(full) = self.full_alone(key, meter) {
+            if full {
+                return Err(0);
+            }
+            raise_alone(&mut self.nodes, key, meter);
+            return Ok(());
+        }
         if let Some(level) = self.full_level(key, meter) {
             return Err(level);
         }

@@ -27,7 +27,23 @@ use tcl_text::text::Text;
 
 impl Value {
     /// Makes it a number, whatever it was. This takes no memory.
+    #[inline(always)]
     pub fn set_int(&mut self, n: i64)
+        ensures { self.new ≡ signed_decimal n }
+    {
+        if let Kept::Nothing = &self.kept {
+            if let Form::Number(own) = &mut self.form {
+                *own = n;
+                return;
+            }
+        }
+        self.become_int(n);
+    }
+
+    /// The same of one that isn't kept as a number alone. It isn't inlined, so that a change of a
+    /// number costs little.
+    #[inline(never)]
+    fn become_int(&mut self, n: i64)
         ensures { self.new ≡ signed_decimal n }
     {
         *self = Value::from_int(n);

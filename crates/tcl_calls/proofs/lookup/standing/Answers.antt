@@ -1,4 +1,4 @@
-use Rattle.std.proofs.Common.{◌≡◌, false, ap, sym, ◌∙◌}
+use Rattle.std.proofs.Common.{◌≡◌, false, refl, ap, sym, ◌∙◌}
 use Rattle.std.specs.Option.{option_and_then}
 use Rattle.tcl_core.specs.Trees.{Node}
 use Rattle.tcl_interpreter.specs.Own.{command_in}
@@ -10,6 +10,6 @@ use Rattle.tcl_calls.proofs.lookup.standing.Goals as goal
 pub returns : goal.returns
 returns c = λ p n names there.
     let word = c.args.word.now in
-    let plain : has_colons word ≡ false = ap has_colons (sym (c.as_str.ensures ∙ c.in_ok-name.ensures.name)) ∙ sym c.with_colons.ensures ∙ c.if-with_colons.false in
+    let plain : has_colons word ≡ false = ap has_colons (sym (c.as_str.ensures ∙ c.in_ok-name.ensures.name)) ∙ c.if-not-has_no_colon.ensures refl in
     let command = c.in_ok-name.ensures.command p names ∙ ap (option_and_then (λ (m : Node Own). command_in m.own word)) there in
     found_kept n word c.in_ok-name.command.now plain (sym command)

@@ -7,7 +7,7 @@ use Rattle.tcl_frames.specs.Chain.{Chain}
 use Rattle.tcl_frames.specs.Places.{current}
 use Rattle.tcl_frames.proofs.LendLemmas.{lent_sound, kept_is}
 use Rattle.tcl_frames.proofs.NearLemmas.{read_there, rebound_there, set_there, below}
-use Rattle.tcl_frames.proofs.frames.Frames.scalar_mut_near.Goals as goal
+use Rattle.tcl_frames.proofs.frames.Frames.scalar_mut_sought.Goals as goal
 
 pub index_mut-frame-requires : goal.index_mut-frame-requires
 index_mut-frame-requires c = let b = below c.self.inside.frames.items (reverse c.self.inside.aside.items) c.args.self.now c.self.view_is c.level-level.result (c.level-level.ensures ∙ ap (λ (s : Chain). current s.frames) c.self.view_is) c.self.invariant.0 in omega (arith, b, c.self.inside.frames.ok.0)

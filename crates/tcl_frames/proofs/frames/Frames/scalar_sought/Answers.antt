@@ -1,7 +1,7 @@
 use Rattle.std.proofs.Common.{sym, ◌∙◌, ap}
 use Rattle.tcl_frames.specs.Chain.{Chain}
 use Rattle.tcl_frames.proofs.NearLemmas.{read_last}
-use Rattle.tcl_frames.proofs.frames.Frames.scalar_near.Goals as goal
+use Rattle.tcl_frames.proofs.frames.Frames.scalar_sought.Goals as goal
 
 pub returns-in-Some : goal.returns-in-Some
 returns-in-Some c =

@@ -1,0 +1,30 @@
+use Rattle.std.proofs.Common.{rules, ◌≡◌, Some, None, ap, ◌∙◌}
+use Rattle.std.specs.Prelude.{codes}
+use Rattle.std.specs.Option.{option_map}
+use Rattle.std.proofs.lemmas.Option.{same_Some}
+use Rattle.tcl_core.specs.Trees.{Node}
+use Rattle.tcl_run.proofs.Steady.{lent_level, stands}
+use Rattle.tcl_tree.specs.Own.{Own}
+use Rattle.tcl_tree.specs.TreeOf.{tree_of}
+use Rattle.tcl_tree.proofs.CoreLemmas.{tree_there}
+use Rattle.tcl_commands.specs.Sums.{added_words, raised}
+use Rattle.tcl_commands.proofs.Growths.{grow_acts}
+use Rattle.tcl_commands.proofs.growing.raise_variable.Goals as goal
+
+pub unreachable-requires : goal.unreachable-requires
+unreachable-requires c =
+    let p = c.requires.0 in
+    let n = stands (tree_of c.args.tree.now p) (tree_there c.args.tree.now p _ c.requires.1) in
+    let clash : None ≡ Some n.0.own.chain = c.in-None.ensures.value p c.requires.1 ∙ ap (option_map (λ (m : Node Own). m.own.chain)) n.1 in
+    cc
+
+pub returns-clause-acts : goal.returns-clause-acts
+returns-clause-acts c =
+    grow_acts c.args.tree.now (c.frames_of.follows.lender c.raise_near.new.frames) c.args.place c.in-Some.frames.now c.raise_near.new.frames (codes "0") c.args.name.now (raised c.args.style (added_words c.args.by)) c.raise_near.result
+    (λ p at. c.frames_of.follows.holds c.raise_near.new.frames (search rules) p at)
+    (λ p n at there. same_Some _ _ (c.in-Some.ensures.value p at ∙ ap (option_map (λ (m : Node Own). m.own.chain)) there)) c.raise_near.ensures
+
+pub returns-clause-level : goal.returns-clause-level
+returns-clause-level c =
+    let p = c.requires.0 in
+    lent_level c.args.tree.now (c.frames_of.follows.lender c.raise_near.new.frames) c.args.place p c.raise_near.new.frames c.requires.1 (c.frames_of.follows.holds c.raise_near.new.frames (search rules) p c.requires.1)
