@@ -1,10 +1,10 @@
-use Rattle.std.proofs.Common.{◌≡◌, ℕ, ◌<◌, ◌≤◌, ◌∙◌, Bool, true, false, None, Some, List, length, refl, sym, ap, rules, arith, below_more, ◌+◌}
+use Rattle.std.proofs.Common.{◌≡◌, ℕ, ◌<◌, ◌∙◌, false, None, sym, ap, rules, arith, below_more, ◌+◌}
 use Rattle.std.proofs.lemmas.Bool.{OnTrue_from, OnFalse_from}
 use Rattle.slab.specs.Slab.{get}
 use Rattle.indexmap.specs.IndexMap.{keys}
 use Rattle.tcl_interpreter.proofs.PathLemmas.{ancestor_itself}
 use Rattle.tcl_tree.specs.Nodes.{follow, full_of, full_up}
-use Rattle.tcl_tree.specs.TreeOf.{tree_of, key_of}
+use Rattle.tcl_tree.specs.TreeOf.{tree_of}
 use Rattle.tcl_tree.proofs.StepLemmas.{climb_end, full_at_is}
 use Rattle.tcl_tree.proofs.tree.Tree.full_alone.Goals as goal
 
