@@ -1,8 +1,8 @@
 -- Which body the words of a `switch` choose.
-use Rattle.std.proofs.Common.{◌≡◌, ℕ, ◌-◌, ◌<◌, ◌≤◌, ◌%◌, ◌⊎◌, inl, inr, Bool, true, false, List, [], ◌∷◌, ◌++◌, take, drop, get_or, length, Option, Some, None, refl, sym, ◌∙◌, ap, subst, arith}
+use Rattle.std.proofs.Common.{◌≡◌, ℕ, zero, suc, ◌+◌, ◌-◌, ◌*◌, ◌<◌, ◌≤◌, ◌%◌, ◌⊎◌, inl, inr, Bool, true, false, List, [], ◌∷◌, ◌++◌, take, drop, get_or, length, length-drop, Option, Some, None, refl, sym, ◌∙◌, ap, subst, arith}
 use Rattle.std.specs.Prelude.{Result, Ok, Err, codes, ◌==◌, ◌||◌, ◌↔◌}
 use Rattle.std.specs.Str.{bytes_eq}
-use Rattle.std.proofs.Math.Seq.{take-length}
+use Rattle.std.proofs.Math.Seq.{drop-cons, take-length}
 use Rattle.std.proofs.lemmas.Slice.Eq.{bytes_eq-Decides}
 use Rattle.tcl_core.specs.Endings.{Reply}
 use Rattle.tcl_core.specs.Endings.Reply.{Completed}
@@ -18,6 +18,7 @@ use Rattle.tcl_run.specs.declared.interruption.Interruption.{Interruption}
 use Rattle.tcl_text.specs.Lists.{list_of}
 use Rattle.tcl_text.specs.Writing.{fault_message}
 use Rattle.tcl_text.specs.declared.list.ListFault.{ListFault}
+use Rattle.tcl_text.proofs.Items.{no_item}
 use Rattle.tcl_calls.specs.Switching.{IsOption, IsOther}
 use Rattle.tcl_calls.specs.declared.switching.OptionWord.{OptionWord}
 use Rattle.tcl_calls.specs.declared.switching.OptionWord.TheVariants.{Sets, Ends, Unknown, Compared}
@@ -104,6 +105,55 @@ pub second_left : (words : List Text) (b : Text) → 2 ≤ length words → b �
 second_left [] b l e = absurd (omega arith)
 second_left (x ∷ []) b l e = absurd (omega arith)
 second_left (x ∷ y ∷ xs) b l e = (x, behind_two (x ∷ y ∷ xs) x b xs (ap (λ w. x ∷ w ∷ xs) (sym e)))
+
+-- ## Pairs of a list, by their places
+
+-- the pair at a place, and those behind it
+pub pair_at : (words : List Text) (i : ℕ) → i + 1 < length words → drop i words ≡ get_or words i [] ∷ get_or words (i + 1) [] ∷ drop (i + 2) words
+pair_at words i h =
+    let n : suc i ≡ i + 1 = omega arith in
+    let m : suc (i + 1) ≡ i + 2 = omega arith in
+    drop-cons words i [] (omega (arith, h))
+    ∙ ap (λ (ws : List Text). get_or words i [] ∷ ws) (ap (λ k. drop k words) n ∙ drop-cons words (i + 1) [] h ∙ ap (λ k. get_or words (i + 1) [] ∷ drop k words) m)
+
+-- an element, whatever stands in its place where there is none
+pub element_is : (words : List Text) (i : ℕ) (x : Text) → i < length words → x ≡ get_or words i x → x ≡ get_or words i []
+element_is [] i x h e = absurd (omega arith)
+element_is (w ∷ ws) zero x h e = e
+element_is (w ∷ ws) (suc i) x h e = element_is ws i x (omega (arith, h)) e
+
+-- what is left behind the last pair
+pub last_pair : (words : List Text) (i : ℕ) → length words - i ≡ 2 → drop (i + 2) words ≡ []
+last_pair words i h = no_item (drop (i + 2) words) (let n = length-drop (i + 2) words in omega (arith, n, h))
+
+at_least_three : (n : ℕ) → 2 ≤ n → (n ≡ 2 → ⊥) → 3 ≤ n
+at_least_three zero l other = absurd (omega (arith, l))
+at_least_three (suc zero) l other = absurd (omega (arith, l))
+at_least_three (suc (suc zero)) l other = absurd (other refl)
+at_least_three (suc (suc (suc n))) l other = omega arith
+
+-- a pattern before others is taken where it fits
+pub takes_before : (fits : Text → Bool) (pattern : Text) (words : List Text) (i : ℕ) → i + 1 < length words → (length words - i ≡ 2 → ⊥) → takes fits pattern (drop (i + 2) words) ≡ fits pattern
+takes_before fits pattern words i h other =
+    let n = length-drop (i + 2) words in
+    let three = at_least_three (length words - i) (omega (arith, h)) other in
+    takes_more fits pattern (drop (i + 2) words) (omega (arith, n, three))
+
+-- whether the pattern of a pair takes a text, and what is chosen then
+pub chosen_at : (fits : Text → Bool) (words : List Text) (n : ℕ) (b : Bool) → 2 * n + 1 < length words → b ≡ takes fits (get_or words (2 * n) []) (drop (2 * n + 2) words) →
+    chosen fits (drop (2 * n) words) ≡ either b (first_body (drop (2 * n) words)) (chosen fits (drop (2 * (n + 1)) words))
+chosen_at fits words n b h e =
+    let m : 2 * n + 2 ≡ 2 * (n + 1) = omega arith in
+    chosen_on fits (drop (2 * n) words) (get_or words (2 * n) []) (get_or words (2 * n + 1) []) (drop (2 * n + 2) words) b (pair_at words (2 * n) h) e
+    ∙ ap (λ k. either b (first_body (drop (2 * n) words)) (chosen fits (drop k words))) m
+
+-- the body of a pair, if it isn't `-`
+pub body_at : (words : List Text) (n : ℕ) (b : Bool) → 2 * n + 1 < length words → bytes_eq (get_or words (2 * n + 1) []) (codes "-") ≡ b →
+    first_body (drop (2 * n) words) ≡ either b (first_body (drop (2 * (n + 1)) words)) (Some (get_or words (2 * n + 1) []))
+body_at words n b h e =
+    let m : 2 * n + 2 ≡ 2 * (n + 1) = omega arith in
+    first_on (drop (2 * n) words) (get_or words (2 * n) []) (get_or words (2 * n + 1) []) (drop (2 * n + 2) words) b (pair_at words (2 * n) h) e
+    ∙ ap (λ k. either b (first_body (drop k words)) (Some (get_or words (2 * n + 1) []))) m
 
 -- ## Words behind the options
 

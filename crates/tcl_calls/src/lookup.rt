@@ -62,8 +62,8 @@ fn has_no_colon(name: &str) -> bool
     true
 }
 
-/// The command that a word names in the interpreter, where it stands at the place that the word
-/// keeps and has no colon. This takes no memory.
+/// The command that a word without a colon names in the interpreter, where it stands at the place
+/// that the word keeps. This takes no memory.
 fn standing<'t>(tree: &'t Tree, place: Place, word: &Value) -> Option<&'t Command>
     ensures { IfSome result (λ command. (p : Path) (n : core.Node Own) → Names tree.now place p →
         tree_of tree.now p ≡ Some n → found n word.now ≡ Ok command.now) }

@@ -124,6 +124,13 @@ fn bind_straight(
     Ok(())
 }
 
+/// Whether a last parameter of this name takes all words that are left.
+fn is_rest(name: &Text) -> bool
+    ensures { result ≡ is_rest name.now }
+{
+    name.len() == 4 && name.as_str() == "args"
+}
+
 /// Whether each parameter takes the word at its place, and no word is left.
 fn is_straight(parameters: &[Parameter], args: &[Value]) -> bool
     ensures even { IsTrue result → length parameters.now ≡ length args.now }
@@ -135,7 +142,7 @@ fn is_straight(parameters: &[Parameter], args: &[Value]) -> bool
     }
     match parameters {
         [] => true,
-        [.., last] => last.name.as_str() != "args",
+        [.., last] => !is_rest(&last.name),
     }
 }
 
@@ -312,7 +319,7 @@ fn last_value(
         (λ i. Interrupts i (λ e. TooLongBound
         (last_bound (is_rest parameter.now.name) parameter.now left.now) e)) }
 {
-    if parameter.name.as_str() == "args" {
+    if is_rest(&parameter.name) {
         return Ok(Some(list_value(alloc, left)?));
     }
     match left {
@@ -374,7 +381,7 @@ fn add_form(
         (string_bytes form.new ≡ string_bytes form.old ++ 32 ∷ form_of is_last parameter.now) }
 {
     form.push_str(" ")?;
-    if is_last && parameter.name.as_str() == "args" {
+    if is_last && is_rest(&parameter.name) {
         return form.push_str("?arg ...?");
     }
     match &parameter.default {

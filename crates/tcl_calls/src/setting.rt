@@ -36,7 +36,7 @@ pub fn set_named(
 ///
 /// # Errors
 /// Why it can't be set; want of memory.
-#[inline(never)]
+#[inline]
 pub fn set_variable(
     tree: &mut Tree,
     alloc: Global,

@@ -1,6 +1,7 @@
 //! Which body the words of a `switch` choose.
 ghost use Rattle.std.specs.Option.{option_copied};
-ghost use Rattle.std.specs.Prelude.{◌≡◌, ◌∷◌, [], IfOk, MatchResult};
+ghost use Rattle.std.specs.Prelude.{◌≡◌, ◌<◌, ◌∷◌, [], IfOk, MatchResult, drop, length};
+ghost use Rattle.std.specs.Prelude.{◌+◌, ◌*◌, slice_index_or};
 ghost use Rattle.std.specs.Str.{bytes_eq};
 ghost use Rattle.tcl_glob.specs.Patterns.{letters};
 ghost use Rattle.tcl_language.specs.Switching as switching;
@@ -8,13 +9,14 @@ ghost use Rattle.tcl_run.specs.Ends.{Gave, Interrupts, IsFailure, itself};
 ghost use Rattle.tcl_language.specs.Interpreters as interpreters;
 ghost use Rattle.tcl_calls.specs.Switching.{manner_of, IsOption, IsOther};
 
-use crate::words::add_elements;
+use itoa::Buffer;
 use std::alloc::{AllocError, Global};
 use tcl_characters::order::equal;
 use tcl_glob::matches;
 use tcl_run::failure::{bad_option, wrong_args};
 use tcl_run::interruption::Interruption;
 use tcl_run::steps::read_list;
+use tcl_value::list::List;
 use tcl_value::value::Value;
 
 /// How patterns are taken.
@@ -132,6 +134,18 @@ fn is_fit(manner: Manner, string: &str, pattern: &str) -> bool
     are_same(pattern, string, manner.nocase)
 }
 
+/// Whether the pattern that a value is fits a text.
+fn fits(alloc: Global, manner: Manner, string: &str, pattern: &Value) -> Result<bool, AllocError>
+    ensures { IfOk result (λ fits. fits ≡ switching.is_fit (manner_of manner) string.now
+        pattern.now) }
+{
+    if let Some(pattern) = pattern.as_text() {
+        return Ok(is_fit(manner, string, pattern.as_str()));
+    }
+    let pattern = pattern.text(alloc)?;
+    Ok(is_fit(manner, string, pattern.as_str()))
+}
+
 /// Whether the last pattern takes a text: it fits, or it is `default`.
 fn takes_last(
     alloc: Global,
@@ -145,8 +159,7 @@ fn takes_last(
     if pattern.is_text(b"default") {
         return Ok(true);
     }
-    let pattern = pattern.text(alloc)?;
-    Ok(is_fit(manner, string, pattern.as_str()))
+    fits(alloc, manner, string, pattern)
 }
 
 /// Whether a pattern takes a text before these pairs.
@@ -163,8 +176,7 @@ fn takes(
     if pairs.is_empty() {
         return takes_last(alloc, manner, string, pattern);
     }
-    let pattern = pattern.text(alloc)?;
-    Ok(is_fit(manner, string, pattern.as_str()))
+    fits(alloc, manner, string, pattern)
 }
 
 /// The first body of pairs that isn't `-`.
@@ -228,6 +240,78 @@ fn own_body(body: Option<&Value>) -> Result<Option<Value>, AllocError>
     }
 }
 
+/// Whether the pattern at a place of a list takes a text before the pairs behind it.
+fn takes_at(
+    alloc: Global,
+    manner: Manner,
+    string: &str,
+    pairs: &List,
+    index: usize,
+) -> Result<bool, AllocError>
+    requires { index + 1 < length pairs.now }
+    ensures { IfOk result (λ taken. taken ≡ switching.takes
+        (switching.is_fit (manner_of manner) string.now) (slice_index_or pairs.now index [])
+        (drop (index + 2) pairs.now)) }
+{
+    let pattern = pairs.get(index)?;
+    if pairs.len() - index == 2 {
+        return takes_last(alloc, manner, string, &pattern);
+    }
+    fits(alloc, manner, string, &pattern)
+}
+
+/// The first body of a list's pairs, from one of them on, that isn't `-`.
+fn first_body_from(pairs: &List, first: usize) -> Result<Option<Value>, AllocError>
+    ensures { IfOk result (λ body. body ≡ switching.first_body (drop (2 * first) pairs.now)) }
+{
+    'bodies: for pair in first..pairs.len() / 2 {
+        let index = 2 * pair + 1;
+        if !pairs.is_at(index, "-") {
+            return Ok(Some(pairs.get(index)?));
+        }
+    }
+    Ok(None)
+}
+
+/// The body of the first pattern of a list's pairs that takes a text.
+fn first_taken_in(
+    alloc: Global,
+    manner: Manner,
+    string: &str,
+    pairs: &List,
+) -> Result<Option<Value>, AllocError>
+    ensures { IfOk result (λ body. body ≡ switching.chosen
+        (switching.is_fit (manner_of manner) string.now) pairs.now) }
+{
+    'pairs: for pair in 0..pairs.len() / 2 {
+        if takes_at(alloc, manner, string, pairs, 2 * pair)? {
+            return first_body_from(pairs, pair);
+        }
+    }
+    Ok(None)
+}
+
+/// The body that a list's pairs of patterns and bodies have for a text. That of a number is written
+/// on the stack.
+fn among_listed(
+    alloc: Global,
+    manner: Manner,
+    string: &Value,
+    pairs: &List,
+) -> Result<Option<Value>, Interruption>
+    ensures { Gave itself (switching.among (manner_of manner) string.now pairs.now) result }
+{
+    if pairs.len() % 2 == 1 {
+        return Err(wrong_args(alloc, SWITCH));
+    }
+    if let Some(number) = string.number() {
+        let mut digits = Buffer::new();
+        return Ok(first_taken_in(alloc, manner, digits.format(number), pairs)?);
+    }
+    let string = string.text(alloc)?;
+    Ok(first_taken_in(alloc, manner, string.as_str(), pairs)?)
+}
+
 /// The same of pairs that are the elements of one word.
 fn among_elements(
     alloc: Global,
@@ -240,9 +324,7 @@ fn among_elements(
 {
     let mut own = pairs.clone()?;
     let list = read_list(alloc, &mut own)?;
-    let mut elements = Vec::new(alloc);
-    add_elements(&list, &mut elements)?;
-    among(alloc, manner, string, elements.as_slice())
+    among_listed(alloc, manner, string, &list)
 }
 
 /// The same of words that are the pairs, or of one word whose elements are.

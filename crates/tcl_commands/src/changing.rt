@@ -45,6 +45,7 @@ pub(crate) enum Change<'a> {
 }
 
 /// Makes a change of a value. A refusal leaves it as it was.
+#[inline(always)]
 fn make_change(alloc: Global, value: &mut Value, change: Change<'_>) -> Result<(), Refusal>
     ensures { Changes result value.old value.new (changed_by change.entry value.old) }
 {
@@ -59,6 +60,7 @@ fn make_change(alloc: Global, value: &mut Value, change: Change<'_>) -> Result<(
 }
 
 /// Makes a change of a value, and gives what it then is.
+#[inline(always)]
 fn change_value(alloc: Global, value: &mut Value, change: Change<'_>) -> Result<Value, Interruption>
     ensures { GrowsTo value.old (altered change.entry) value.new result }
 {
@@ -123,6 +125,7 @@ fn change_held(
 }
 
 /// Changes what a variable holds; where there is none it is made, if the change may make one.
+#[inline(always)]
 fn change_in(
     frames: &mut Frames,
     alloc: Global,
@@ -143,6 +146,7 @@ fn change_in(
 }
 
 /// Changes a variable of the interpreter that the place names.
+#[inline(always)]
 fn change_variable(
     tree: &mut Tree,
     alloc: Global,

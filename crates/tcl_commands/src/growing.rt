@@ -71,7 +71,8 @@ pub(crate) enum Growth {
     /// What is added to its integer, in this style of integer texts: that of the first word, or 1
     /// where there is none.
     Sum(Integers),
-    /// A number that is added to its integer, in this style of integer texts, or 1.
+    /// A number that is added to its integer, or 1 where there is none. The style is that in which
+    /// the integer is read.
     Number(Integers, Option<i64>),
 }
 

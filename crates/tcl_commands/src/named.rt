@@ -25,7 +25,7 @@ use tcl_value::value::Value;
 pub enum VariableChange {
     /// `set varName newValue`.
     Set(Value),
-    /// `incr varName ?increment?` of a number at hand.
+    /// `incr varName ?increment?` by a number at hand, or by 1 where there is none.
     Raise(Option<i64>),
     /// `incr varName increment`.
     Incr(Value),

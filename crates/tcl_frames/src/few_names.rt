@@ -147,7 +147,7 @@ impl<V> FewNames<V> {
     /// Whether a name of at most eight bytes stands where it was found last. A hint, of which
     /// contracts say nothing.
     #[inline(always)]
-    pub fn is_short_near(&self, name: &VariableName) -> bool {
+    pub(crate) fn is_short_near(&self, name: &VariableName) -> bool {
         stands_short_at(self.entries.as_slice(), name.hint(), name.text())
     }
 

@@ -182,7 +182,7 @@ impl Frame {
     /// Whether a name of at most eight bytes stands where it was found last, among few. A hint, of
     /// which contracts say nothing.
     #[inline(always)]
-    pub fn is_short_near(&self, name: &VariableName) -> bool {
+    pub(crate) fn is_short_near(&self, name: &VariableName) -> bool {
         self.variables.is_short_near(name)
     }
 

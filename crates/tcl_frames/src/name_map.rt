@@ -89,7 +89,7 @@ impl<V> NameMap<V> {
     /// Whether a name of at most eight bytes stands where it was found last, among few. A hint, of
     /// which contracts say nothing.
     #[inline(always)]
-    pub fn is_short_near(&self, name: &VariableName) -> bool {
+    pub(crate) fn is_short_near(&self, name: &VariableName) -> bool {
         match &self.entries {
             Entries::Few(few) => few.is_short_near(name),
             Entries::Many(_) => false,

@@ -16,3 +16,4 @@ pub mod Levels
 pub mod NestedPlaces
 pub mod Placed
 pub mod Named
+pub mod Plain

@@ -1,5 +1,5 @@
 -- Changes that are refused.
-use Rattle.std.proofs.Common.{◌≡◌, ℕ, List, [], ◌∷◌, ◌++◌, Ok, Err, sym, ap, ◌∙◌, subst}
+use Rattle.std.proofs.Common.{◌≡◌, ℕ, List, ◌++◌, Ok, Err, sym, ap, ◌∙◌, subst}
 use Rattle.std.specs.declared.result.Result.{Result}
 use Rattle.tcl_text.specs.declared.list.ListFault.{ListFault}
 use Rattle.tcl_words.specs.declared.refusal.Refusal.{Refusal}

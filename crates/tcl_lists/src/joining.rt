@@ -1,6 +1,7 @@
 //! Texts of several: `join` and `concat`.
 ghost use Rattle.std.specs.Prelude.{◌≡◌, ◌≤◌, ◌++◌, ◌∷◌, [], ℕ, List as Bytes, length, codes};
 ghost use Rattle.std.specs.Prelude.{unwrap_or, OnOk, IfOk, IfSome, IfErr, Ok};
+ghost use Rattle.std.specs.Bool.{OnTrue};
 ghost use Rattle.std.specs.Option.{option_copied};
 ghost use Rattle.std.specs.Str.{chars};
 ghost use Rattle.std.specs.String.{string_bytes};
@@ -16,6 +17,7 @@ use std::alloc::{AllocError, Global};
 use tcl_characters::trimming::{trim_left, trim_right};
 use tcl_text::limit::MOST_BYTES;
 use tcl_text::text::Text;
+use tcl_value::list::List;
 use tcl_value::value::Value;
 use tcl_words::refusal::{Refusal, too_long};
 
@@ -153,6 +155,35 @@ fn lone_word(alloc: Global, word: &Value) -> Result<Option<Value>, AllocError>
     Ok(Some(Value::from_short_text(text)))
 }
 
+/// Adds all elements of another list. Says whether there was room for them, and memory.
+fn add_list(made: &mut List, list: &List) -> bool
+    ensures { OnTrue result (made.new ≡ made.old ++ list.now) }
+{
+    list.is_empty() || made.push_slice(list, 0, list.len()).is_ok()
+}
+
+/// What words are put together to, where each of them is at hand as a list of plain elements: the
+/// list of all these elements, whose text isn't made.
+fn concat_lists(alloc: Global, words: &[Value]) -> Result<Option<Value>, AllocError>
+    ensures { IfOk result (λ found. IfSome found (λ value. concat_of words.now ≡ Ok value)) }
+{
+    let [first, rest @ ..] = words else {
+        return Ok(None);
+    };
+    let Some(mut made) = first.plain_list(alloc)? else {
+        return Ok(None);
+    };
+    'rest: for word in rest {
+        let Some(list) = word.plain_list(alloc)? else {
+            return Ok(None);
+        };
+        if !add_list(&mut made, &list) {
+            return Ok(None);
+        }
+    }
+    Ok(Value::from_list(alloc, made).ok())
+}
+
 /// What words are put together to, in a text of its own.
 fn concat_all(alloc: Global, words: &[Value]) -> Result<Value, Refusal>
     ensures { Gives (λ value. value) result (concat_of words.now) }
@@ -166,18 +197,20 @@ fn concat_all(alloc: Global, words: &[Value]) -> Result<Value, Refusal>
 }
 
 /// `concat ?arg ...?`: the words without white space at their ends, those of which something is
-/// left, with a space between any two. A single word without white space at its ends is handed on.
+/// left, with a space between any two. A single word without white space at its ends is handed on,
+/// and words that are kept as lists of plain elements make one that is kept so.
 ///
 /// # Errors
 /// 122; want of memory.
 pub fn concat(alloc: Global, words: &[Value]) -> Result<Value, Refusal>
     ensures { Gives (λ value. value) result (concat_of words.now) }
 {
-    match words {
-        [word] => match lone_word(alloc, word)? {
-            Some(value) => Ok(value),
-            None => concat_all(alloc, words),
-        },
-        _ => concat_all(alloc, words),
+    let whole = match words {
+        [word] => lone_word(alloc, word)?,
+        _ => concat_lists(alloc, words)?,
+    };
+    match whole {
+        Some(value) => Ok(value),
+        None => concat_all(alloc, words),
     }
 }

@@ -61,6 +61,10 @@ pub fn set_element(
             *own = value;
             Ok(())
         }
+        [last] => {
+            let place = find_place(alloc, style, own, last)?;
+            put_element(alloc, own, place, value)
+        }
         [index, rest @ ..] => {
             let (place, inner) = find_in(alloc, style, own, index)?;
             let inner = element_changed(alloc, style, inner, rest, value)?;
@@ -164,6 +168,10 @@ fn set_value_anew(
     match path {
         [] => {
             *own = value;
+            Ok(())
+        }
+        [last] => {
+            own.set_key(alloc, last, value)?;
             Ok(())
         }
         [key, rest @ ..] => {
@@ -318,6 +326,23 @@ fn enter_list(
     let place = place_among(alloc, style, list.len(), index)?;
     let inner = element_at(&list, place)?;
     Ok((list, place, inner))
+}
+
+/// The place that an index names in the list that a value reads as.
+fn find_place(
+    alloc: Global,
+    style: Integers,
+    own: &mut Value,
+    index: &Value,
+) -> Result<usize, NestedError>
+    ensures found { IfOk result (λ n. AtList (list_of own.old)
+        (λ l. place_in style l index.now ≡ Ok n)) }
+    ensures refused { IfErr result
+        (λ e. Refuses e (next (list_in own.old) (λ l. place_in style l index.now))) }
+    ensures text { own.new ≡ own.old }
+{
+    let count = own.as_list(alloc)?.len();
+    place_among(alloc, style, count, index)
 }
 
 /// The place that an index names in the list that a value reads as, and the element there.

@@ -20,3 +20,4 @@ pub mod Parts
 pub mod Longer
 pub mod Inside
 pub mod InsideDicts
+pub mod Plain

@@ -76,9 +76,13 @@ plain_form first [] h = absurd (omega (arith, h.some))
 plain_form true (b ∷ x) h = by_test (has_special (b ∷ x) || begins_with_hash (b ∷ x)) (cond (fits_braces (b ∷ x)) Braced Escaped) Plain (both_false (has_special (b ∷ x)) _ h.plain h.hash)
 plain_form false (b ∷ x) h = by_test (has_special (b ∷ x) || false) (cond (fits_braces (b ∷ x)) Braced Escaped) Plain (both_false (has_special (b ∷ x)) false h.plain refl)
 
--- a number is written as it is
+-- such a text is written as it is
+pub write_element-plain : (first : Bool) (x : List ℕ) → IsPlainText x → write_element first x ≡ x
+write_element-plain first x h = written_plain first x (plain_form first x h)
+
+-- a number is
 pub write_element-number : (first : Bool) (n : ℤ) → FitsSigned w64 n → write_element first (signed_decimal n) ≡ signed_decimal n
-write_element-number first n h = written_plain first (signed_decimal n) (plain_form first (signed_decimal n) (plain_signed n h))
+write_element-number first n h = write_element-plain first (signed_decimal n) (plain_signed n h)
 
 not_backslash : (b : ℕ) → is_special b ≡ false → (b == 92) ≡ false
 not_backslash b h = grind (arith, nat_tests)

@@ -10,3 +10,4 @@ pub mod DictMessages
 pub mod DictChanges
 pub mod Laws
 pub mod Inside
+pub mod Plain

@@ -2,6 +2,7 @@
 ghost use Rattle.std.specs.Prelude.{◌≡◌, ◌≢◌, ◌≤◌, ◌+◌, false, ◌++◌, ◌∷◌, ◌↔◌, [], length, OnOk};
 ghost use Rattle.std.specs.Prelude.{OnErr, IfOk, IsTrue, MatchOption, Bool};
 ghost use Rattle.std.specs.Bool.{OnTrue, OnFalse};
+ghost use Rattle.std.specs.List.{list_all};
 ghost use Rattle.std.specs.String.{string_bytes};
 ghost use Rattle.std.specs.Fmt.{signed_decimal};
 ghost use Rattle.tcl_text.specs.Writing.{Extends};
@@ -11,6 +12,7 @@ ghost use Rattle.tcl_value.specs.Texts.{element_text, texts, flat, AreElements, 
 ghost use Rattle.tcl_value.specs.Texts.{IsElement, IsInner};
 ghost use Rattle.tcl_value.specs.Inside.{ListPut, InnerChange, DictChange, IsChange, element_put};
 ghost use Rattle.tcl_value.specs.Inside.{entry_changed, changed_by};
+ghost use Rattle.tcl_value.specs.Plain.{is_plain_byte, is_plain, is_plain_element};
 
 use crate::entries::Entries;
 use crate::items::Items;
@@ -110,6 +112,18 @@ impl Element {
             Element::Text(text) => has_backslash_end(text.as_str().as_bytes()),
             Element::Grown(grown) => has_backslash_end(grown.text().as_str().as_bytes()),
             Element::Number(_) | Element::List(_) | Element::Dict(_) => false,
+        }
+    }
+
+    /// Whether its text is known to be plain: that of a number is, a text is looked at, and what is
+    /// kept in any other form isn't known to be.
+    pub(crate) fn is_plain(&self) -> bool
+        ensures { result ≡ is_plain_element self.now }
+    {
+        match self {
+            Element::Text(text) => is_plain(text.as_str().as_bytes()),
+            Element::Number(_) => true,
+            Element::Grown(_) | Element::List(_) | Element::Dict(_) => false,
         }
     }
 
@@ -459,6 +473,33 @@ pub(crate) fn has_backslash_end(text: &[u8]) -> bool
     match text {
         [] => false,
         [.., last] => *last == b'\\',
+    }
+}
+
+/// Whether a byte is ASCII and isn't special.
+fn is_plain_byte(byte: u8) -> bool
+    ensures { result ≡ is_plain_byte byte }
+{
+    match byte {
+        b'\t'..=b'\r' | b' ' | b'{' | b'}' | b'[' | b']' | b'$' | b';' | b'"' | b'\\' => false,
+        _ => byte.is_ascii(),
+    }
+}
+
+/// Whether each of these bytes is ASCII and isn't special.
+fn are_plain_bytes(bytes: &[u8]) -> bool
+    ensures { result ≡ list_all is_plain_byte bytes.now }
+{
+    bytes.iter().all(|byte| is_plain_byte(*byte))
+}
+
+/// Whether a text is plain: ASCII, and written as it is anywhere in a list.
+fn is_plain(text: &[u8]) -> bool
+    ensures { result ≡ is_plain text.now }
+{
+    match text {
+        [] => false,
+        [first, ..] => *first != b'#' && are_plain_bytes(text),
     }
 }
 

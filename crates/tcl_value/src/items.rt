@@ -3,6 +3,7 @@ ghost use Rattle.std.specs.Prelude.{◌≡◌, ◌<◌, ◌≤◌, ◌++◌, ◌
 ghost use Rattle.std.specs.Prelude.{length, IfOk, OnOk, OnErr, IfErr, IsErr, IsErrOf, IsTrue};
 ghost use Rattle.std.specs.Prelude.{slice_index_or, slice_set, take, drop};
 ghost use Rattle.std.specs.Bool.{OnTrue, OnFalse};
+ghost use Rattle.std.specs.List.{list_all};
 ghost use Rattle.std.specs.String.{string_bytes};
 ghost use Rattle.tcl_text.specs.Writing.{Extends};
 ghost use Rattle.tcl_value.specs.Limits.{IsWithin, IsPast};
@@ -10,6 +11,7 @@ ghost use Rattle.tcl_value.specs.Writing.{write};
 ghost use Rattle.tcl_value.specs.Texts.{element_text, texts, flat, IsElement, IsInner, AreElements};
 ghost use Rattle.tcl_value.specs.Texts.{ends_in_backslash, weight, weight_from};
 ghost use Rattle.tcl_value.specs.Inside.{ListPut};
+ghost use Rattle.tcl_value.specs.Plain.{ArePlain, is_plain_element};
 
 use crate::element::{Element, MOST_DEPTH};
 use crate::entries::Entries;
@@ -136,6 +138,13 @@ impl Items {
     /// How deep lists and dicts stand in it, at most.
     pub(crate) fn depth(&self) -> u32 {
         self.depth
+    }
+
+    /// Whether each of its elements is known to be plain (see [`Element::is_plain`]).
+    pub(crate) fn is_plain(&self) -> bool
+        ensures { IsTrue result → ArePlain self.now }
+    {
+        are_plain(&self.elements)
     }
 
     /// Writes its text to the end of a string.
@@ -575,6 +584,13 @@ fn deepest(elements: &[Element]) -> u32 {
         .map(|element| element.depth())
         .max()
         .unwrap_or(0)
+}
+
+/// Whether each of these elements is known to be plain.
+fn are_plain(elements: &[Element]) -> bool
+    ensures { result ≡ list_all is_plain_element elements.now }
+{
+    elements.iter().all(|element| element.is_plain())
 }
 
 impl Clone for Items {

@@ -11,6 +11,7 @@ ghost use Rattle.tcl_value.specs.Reading.{int_of, list_of};
 ghost use Rattle.tcl_text.specs.Reading.{Gives};
 ghost use Rattle.tcl_text.specs.Writing.{Extends};
 ghost use Rattle.tcl_value.specs.Dicts.{without, dict_of, GivesDict};
+ghost use Rattle.tcl_value.specs.Plain.{ArePlain};
 
 mod changing;
 pub(crate) mod shared;
@@ -456,6 +457,26 @@ impl Value {
         }
     }
 
+    /// The list whose text this is, where that is at hand without reading the text and each of its
+    /// elements is known to be plain, which is written as it is anywhere in a list. A list that was
+    /// built is shared.
+    ///
+    /// # Errors
+    /// Want of memory.
+    pub fn plain_list(&self, alloc: Global) -> Result<Option<List>, AllocError>
+        ensures text { IfOk result (λ found. IfSome found (λ list. self.now ≡ write list)) }
+        ensures plain { IfOk result (λ found. IfSome found ArePlain) }
+    {
+        match (&self.form, &self.kept) {
+            (Form::Empty, _) => Ok(Some(List::new(alloc)?)),
+            (Form::Number(n), _) => Ok(Some(List::of_number(alloc, *n)?)),
+            (Form::List(items), _) => plain_items(items),
+            (Form::Text(text), _) if text.is_empty() => Ok(Some(List::new(alloc)?)),
+            (Form::Text(text), Kept::List(list)) => plain_reading(text, list),
+            _ => Ok(None),
+        }
+    }
+
     /// The list that its text reads as, read anew.
     fn read_list(&self, alloc: Global) -> Result<List, ListError>
         ensures { Gives (λ list. list) result (list_of self.now) }
@@ -613,6 +634,29 @@ impl Value {
             text.set_hint(place);
         }
     }
+}
+
+/// The list of these elements, which is shared, where they are known to be plain.
+fn plain_items(items: &Rc<Items>) -> Result<Option<List>, AllocError>
+    ensures list { IfOk result (λ found. IfSome found (λ list. list ≡ items.now.value)) }
+    ensures plain { IfOk result (λ found. IfSome found ArePlain) }
+{
+    if !items.is_plain() {
+        return Ok(None);
+    }
+    Ok(Some(List::from_items(items.clone()?)))
+}
+
+/// The list that a text was read as, where its elements are known to be plain and the text is just
+/// what it writes.
+fn plain_reading(text: &Text, list: &List) -> Result<Option<List>, AllocError>
+    ensures text { IfOk result (λ found. IfSome found (λ list. text.now ≡ write list)) }
+    ensures plain { IfOk result (λ found. IfSome found ArePlain) }
+{
+    if !list.items().is_plain() || !list.items().is_text(text.as_str().as_bytes()) {
+        return Ok(None);
+    }
+    Ok(Some(list.clone()?))
 }
 
 /// A list as an element: without a text where its text is written in braces.

@@ -1,5 +1,4 @@
 use Rattle.std.proofs.Common.{◌≡◌, Bool, true, false, not, refl, sym, ap, ◌∙◌}
-use Rattle.tcl_language.specs.Control.{is_rest}
 use Rattle.tcl_calls.proofs.Binding.{some_straight}
 use Rattle.tcl_calls.proofs.procedures.is_straight.Goals as goal
 
@@ -10,4 +9,4 @@ is_other false e = refl
 pub returns-in-len1-up-clause-bound : goal.returns-in-len1-up-clause-bound
 returns-in-len1-up-clause-bound c = λ is.
     some_straight c.args.parameters.now c.last-item.result c.args.args.now c.in-len1-up.len_at_least c.if-parameters-args.false c.last-item.is
-    (ap is_rest (sym c.as_str.ensures) ∙ is_other (is_rest c.as_str.result.now) (sym c.ne.ensures ∙ is))
+    (sym c.is_rest.ensures ∙ is_other c.is_rest.result is)

@@ -7,7 +7,7 @@ use Rattle.tcl_run.proofs.Endings.{ended_err}
 use Rattle.tcl_text.specs.Lists.{list_of}
 use Rattle.tcl_text.specs.Writing.{fault_message}
 use Rattle.tcl_calls.specs.Switching.{manner_of}
-use Rattle.tcl_calls.proofs.Choosing.{filled, gave_as, read_among, unread_as}
+use Rattle.tcl_calls.proofs.Choosing.{gave_as, read_among, unread_as}
 use Rattle.tcl_calls.proofs.switching.among_elements.Goals as goal
 
 pub returns-in_err-list : goal.returns-in_err-list
@@ -19,6 +19,5 @@ returns-in_err-list c =
 pub returns : goal.returns
 returns c =
     let read : list_of c.args.pairs.now ≡ Ok c.in_ok-list.list = ap list_of (sym c.in_ok-own.ensures.cases) ∙ c.in_ok-list.ensures.read in
-    let same = filled c.new-elements.result.items c.in_ok-list.list c.add_elements.new.words.items c.as_slice.result.now c.as_slice.ensures.value c.in_ok-add_elements.ensures c.new-elements.ensures.items in
-    gave_as (behind_options (manner_of c.args.manner) (c.args.string.now ∷ c.args.pairs.now ∷ [])) (among (manner_of c.args.manner) c.args.string.now c.as_slice.result.now) c.among.result
-    (read_among (manner_of c.args.manner) c.args.string.now c.args.pairs.now c.in_ok-list.list read ∙ ap (among (manner_of c.args.manner) c.args.string.now) same) c.among.ensures
+    gave_as (behind_options (manner_of c.args.manner) (c.args.string.now ∷ c.args.pairs.now ∷ [])) (among (manner_of c.args.manner) c.args.string.now c.in_ok-list.list) c.among_listed.result
+    (read_among (manner_of c.args.manner) c.args.string.now c.args.pairs.now c.in_ok-list.list read) c.among_listed.ensures

@@ -1,4 +1,4 @@
-use Rattle.std.proofs.Common.{List, length, sym, ◌∙◌, ap, subst, arith}
+use Rattle.std.proofs.Common.{Bool, List, length, sym, subst, arith}
 use Rattle.std.specs.Prelude.{IfOk, ◌≡◌}
 use Rattle.tcl_core.specs.Paths.{Text}
 use Rattle.tcl_language.specs.Switching.{is_fit, takes}
@@ -17,5 +17,4 @@ returns-then-is_empty c =
 pub returns : goal.returns
 returns c =
     let some = some_is (length c.args.pairs.now) c.is_empty.result c.is_empty.ensures c.if-is_empty.false in
-    c.is_fit.ensures ∙ ap (is_fit (manner_of c.args.manner) c.args.string.now) (c.as_str.ensures ∙ c.in_ok-pattern.ensures)
-    ∙ sym (takes_more (is_fit (manner_of c.args.manner) c.args.string.now) c.args.pattern.now c.args.pairs.now some)
+    subst (λ (b : Bool). IfOk c.fits.result (λ taken. taken ≡ b)) (sym (takes_more (is_fit (manner_of c.args.manner) c.args.string.now) c.args.pattern.now c.args.pairs.now some)) c.fits.ensures

@@ -1,5 +1,5 @@
-use Rattle.std.proofs.Common.{◌≡◌, rules, true, false, [], sym, ◌∙◌, ap, arith}
-use Rattle.std.specs.Prelude.{codes}
+use Rattle.std.proofs.Common.{◌≡◌, rules, true, false, [], Bool, sym, subst, arith}
+use Rattle.std.specs.Prelude.{IfOk, codes}
 use Rattle.std.specs.Str.{bytes_eq}
 use Rattle.tcl_language.specs.Switching.{is_fit}
 use Rattle.tcl_calls.specs.Switching.{manner_of}
@@ -14,5 +14,4 @@ returns-then-is_text c =
 pub returns : goal.returns
 returns c =
     let other : bytes_eq c.args.pattern.now (codes "default") ≡ false = search rules in
-    c.is_fit.ensures ∙ ap (is_fit (manner_of c.args.manner) c.args.string.now) (c.as_str.ensures ∙ c.in_ok-pattern.ensures)
-    ∙ sym (takes_last (is_fit (manner_of c.args.manner) c.args.string.now) c.args.pattern.now [] false (omega arith) other)
+    subst (λ (b : Bool). IfOk c.fits.result (λ taken. taken ≡ b)) (sym (takes_last (is_fit (manner_of c.args.manner) c.args.string.now) c.args.pattern.now [] false (omega arith) other)) c.fits.ensures
