@@ -1,4 +1,4 @@
-use Rattle.std.proofs.Common.{◌≡◌, Bool, true, false, not, refl, sym, ap, ◌∙◌}
+use Rattle.std.proofs.Common.{◌≡◌, Bool, true, false, not, refl, sym, ◌∙◌}
 use Rattle.tcl_calls.proofs.Binding.{some_straight}
 use Rattle.tcl_calls.proofs.procedures.is_straight.Goals as goal
 

@@ -1,4 +1,4 @@
-use Rattle.std.proofs.Common.{◌≡◌, ◌%◌, rules, sym, ◌∙◌, ap, FitsSigned, w64}
+use Rattle.std.proofs.Common.{◌%◌, rules, sym, ◌∙◌, ap, FitsSigned, w64}
 use Rattle.std.proofs.lemmas.Int.{to_z-of_z}
 use Rattle.std.specs.Fmt.{signed_decimal}
 use Rattle.tcl_run.proofs.Endings.{Interrupts-more}
