@@ -1,17 +1,18 @@
 -- Lists whose elements are plain, put together.
-use Rattle.std.proofs.Common.{◌≡◌, ℕ, suc, ◌<◌, ◌≤◌, ◌+◌, ◌-◌, Bool, true, false, cond, List, [], ◌∷◌, ◌++◌, length, take, drop, get_or, refl, sym, ◌∙◌, ap, arith, append-nil, append_assoc}
-use Rattle.std.specs.Prelude.{◌==◌, ◌||◌, codes}
+use Rattle.std.proofs.Common.{◌≡◌, ℕ, suc, ◌<◌, ◌+◌, ◌-◌, true, false, cond, List, [], ◌∷◌, ◌++◌, length, drop, get_or, refl, sym, ◌∙◌, ap, arith, append-nil, append_assoc}
+use Rattle.std.specs.Prelude.{◌==◌, codes}
 use Rattle.std.specs.List.{flat_map}
 use Rattle.std.specs.Str.{chars, IsAscii}
 use Rattle.std.proofs.lemmas.Bool.Decides.{nat_tests}
 use Rattle.std.proofs.lemmas.Grind.{flat_map-append}
-use Rattle.std.proofs.lemmas.List.{drop_more, take_all}
+use Rattle.std.proofs.lemmas.List.{drop_more}
 use Rattle.std.proofs.lemmas.Str.{chars-nil, chars-IsAscii, encodes-IsAscii, IsAscii-append}
 use Rattle.std.proofs.lemmas.Str.Ascii.{IsAscii-nil, IsAscii-cons}
 use Rattle.tcl_text.specs.Writing.{is_special, has_special, last_byte}
 use Rattle.tcl_value.specs.Writing.{write, write_rest}
 use Rattle.tcl_value.specs.Plain.{IsPlain, ArePlain}
 use Rattle.tcl_value.proofs.Plain.{write_element-IsPlain, ArePlain-append}
+use Rattle.tcl_value.proofs.Written.{left_false, right_false}
 use Rattle.tcl_characters.specs.Texts.{text_of, is_among, trim_start, before_trimmed, trim_end}
 use Rattle.tcl_lists.specs.Joining.{joined, white, trimmed, with_part, filled, gap, onto}
 use Rattle.tcl_lists.proofs.Added.{part_added}
@@ -45,14 +46,6 @@ write-append ((b ∷ x) ∷ xs) (y ∷ ys) h k m =
     ∙ ap (λ t. t ++ (gap t ++ write (y ∷ ys))) (sym (write-plain ((b ∷ x) ∷ xs) h))
 
 -- ---- its ends
-
-left_false : (a b : Bool) → (a || b) ≡ false → a ≡ false
-left_false true b h = absurd (cc)
-left_false false b h = refl
-
-right_false : (a b : Bool) → (a || b) ≡ false → b ≡ false
-right_false true b h = absurd (cc)
-right_false false b h = h
 
 last_byte-append : (p : ℕ) (x y : List ℕ) → last_byte p (x ++ y) ≡ last_byte (last_byte p x) y
 last_byte-append p [] y = refl
@@ -143,8 +136,3 @@ one_more rest made list grown word i m e w g h k =
     ∙ list_added made list (filled (drop (i + 1) rest)) h k
     ∙ ap (λ t. onto (write made) (with_part (trimmed t) (filled (drop (i + 1) rest)))) (sym w)
     ∙ ap (λ ws. onto (write made) (filled ws)) (sym (drop_more rest i word m ∙ ap (λ t. t ∷ drop (i + 1) rest) (sym e)))
-
--- the first word, and the others as the loop has them
-pub first_and_rest : (words : List (List ℕ)) (word : List ℕ) → 1 ≤ length words → word ≡ get_or words 0 word → words ≡ word ∷ take (length words - 1) (drop 1 words)
-first_and_rest [] word h e = absurd (omega arith)
-first_and_rest (w ∷ words) word h e = ap (λ x. x ∷ words) (sym e) ∙ ap (λ xs. word ∷ xs) (sym (take_all (length (w ∷ words) - 1) words (omega arith)))

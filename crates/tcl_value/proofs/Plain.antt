@@ -1,6 +1,6 @@
 -- Texts that are written as they are.
 use Rattle.std.proofs.Common.{◌≡◌, ℕ, ◌<◌, ◌≤◌, Bool, true, false, ℤ, List, [], ◌∷◌, ◌++◌, length, refl, sym, ◌∙◌, ap, subst, arith, append-nil, get_or, FitsSigned, w64}
-use Rattle.std.specs.Prelude.{not, ◌&&◌, ◌||◌, ◌==◌}
+use Rattle.std.specs.Prelude.{not, ◌&&◌, ◌==◌}
 use Rattle.std.specs.Char.{is_ascii}
 use Rattle.std.specs.Fmt.{signed_decimal}
 use Rattle.std.specs.List.{list_all}
@@ -14,7 +14,7 @@ use Rattle.tcl_value.specs.Texts.{element_text, texts, IsElement, AreElements}
 use Rattle.tcl_value.specs.Plain.{IsPlain, ArePlain, is_plain_byte, is_plain, is_plain_element}
 use Rattle.tcl_value.specs.declared.element.Element.{Element}
 use Rattle.tcl_value.specs.declared.element.Element.TheVariants.{Text, Grown, Number, List as Inner, Dict}
-use Rattle.tcl_value.proofs.Written.{plain_signed, write_element-plain, write_element-number}
+use Rattle.tcl_value.proofs.Written.{both_false, plain_signed, write_element-plain, write_element-number}
 
 not_true : (a : Bool) → not a ≡ true → a ≡ false
 not_true true h = absurd (cc)
@@ -28,17 +28,13 @@ both_right : (a b : Bool) → (a && b) ≡ true → b ≡ true
 both_right true b h = h
 both_right false b h = absurd (cc)
 
-or_false : (a b : Bool) → a ≡ false → b ≡ false → (a || b) ≡ false
-or_false true b h k = absurd (cc)
-or_false false b h k = k
-
 ascii_byte : (b : ℕ) → is_ascii b ≡ true → b < 128
 ascii_byte b h = grind (arith, nat_tests)
 
 -- what is tested of each byte
 plain_bytes : (x : List ℕ) → list_all is_plain_byte x ≡ true → has_special x ≡ false
 plain_bytes [] h = refl
-plain_bytes (b ∷ x) h = or_false (is_special b) (has_special x) (not_true (is_special b) (both_left (not (is_special b)) (is_ascii b) (both_left (is_plain_byte b) (list_all is_plain_byte x) h))) (plain_bytes x (both_right (is_plain_byte b) (list_all is_plain_byte x) h))
+plain_bytes (b ∷ x) h = both_false (is_special b) (has_special x) (not_true (is_special b) (both_left (not (is_special b)) (is_ascii b) (both_left (is_plain_byte b) (list_all is_plain_byte x) h))) (plain_bytes x (both_right (is_plain_byte b) (list_all is_plain_byte x) h))
 
 ascii_bytes : (x : List ℕ) → list_all is_plain_byte x ≡ true → IsAscii x
 ascii_bytes [] h = IsAscii-nil

@@ -34,15 +34,15 @@ pub record IsPlainText (x : List ℕ) : Type 0 where
   pub plain : has_special x ≡ false
   pub hash : begins_with_hash x ≡ false
 
-both_false : (a b : Bool) → a ≡ false → b ≡ false → (a || b) ≡ false
+pub both_false : (a b : Bool) → a ≡ false → b ≡ false → (a || b) ≡ false
 both_false true b h k = absurd (cc)
 both_false false b h k = k
 
-left_false : (a b : Bool) → (a || b) ≡ false → a ≡ false
+pub left_false : (a b : Bool) → (a || b) ≡ false → a ≡ false
 left_false true b h = absurd (cc)
 left_false false b h = refl
 
-right_false : (a b : Bool) → (a || b) ≡ false → b ≡ false
+pub right_false : (a b : Bool) → (a || b) ≡ false → b ≡ false
 right_false true b h = absurd (cc)
 right_false false b h = h
 

@@ -2,7 +2,8 @@ use Rattle.std.proofs.Common.{◌≡◌, IfSome, ◌-◌, length, take, drop, sy
 use Rattle.tcl_value.specs.Writing.{write}
 use Rattle.tcl_value.specs.Plain.{ArePlain}
 use Rattle.tcl_value.proofs.Plain.{ArePlain-append}
-use Rattle.tcl_lists.proofs.Plain.{first_and_rest, begun, one_more}
+use Rattle.tcl_lists.proofs.Placed.{first_and_rest}
+use Rattle.tcl_lists.proofs.Plain.{begun, one_more}
 use Rattle.tcl_lists.proofs.joining.concat_lists.Goals as goal
 
 pub rest-init : goal.rest-init
