@@ -7,7 +7,9 @@ use Rattle.tcl_core.specs.Endings.Reply.{Completed}
 use Rattle.tcl_core.specs.Runs.{Ending}
 use Rattle.tcl_core.specs.Trees.{Tree, Node}
 use Rattle.tcl_frames.specs.Places.{Levels}
-use Rattle.tcl_language.specs.Instructions.{fits}
+use Rattle.tcl_frames.specs.declared.fault.FrameFault.{FrameFault}
+use Rattle.tcl_language.specs.Instructions.{Open, fits}
+use Rattle.tcl_language.specs.Instructions.Instr.{Parts}
 use Rattle.tcl_language.specs.Scripts.{parts, words}
 use Rattle.tcl_run.specs.Language.{language}
 use Rattle.tcl_parser.specs.Reading.{read_script}
@@ -17,13 +19,15 @@ use Rattle.tcl_parser.specs.declared.script.Part.TheVariants.{Literal, Variable,
 use Rattle.tcl_prepared.specs.Views.{literal_word}
 use Rattle.tcl_run.specs.Ends.{Stays}
 use Rattle.tcl_run.specs.Runs.{Proceeds, Ways}
-use Rattle.tcl_run.proofs.Proceeding.{at_prog, at_reply, completed}
+use Rattle.std.specs.Prelude.{Result}
+use Rattle.tcl_calls.specs.Words.{AtOk, Closes}
+use Rattle.tcl_run.proofs.Proceeding.{at_prog, at_reply, completed, goes_done}
 use Rattle.tcl_text.specs.declared.integer.Integers.{Integers}
 use Rattle.tcl_tree.specs.Own.{Own}
-use Rattle.tcl_evaluation.specs.Hands.{AllEnd, AllStand, EndsAs, IsCounted, PartStands, PartsStand, StandsFor, one_of}
+use Rattle.tcl_evaluation.specs.Hands.{AllEnd, AllStand, ElementStands, EndsAs, IsCounted, PartStands, PartsStand, StandsFor, WordStands, one_of}
 use Rattle.tcl_evaluation.specs.Scripts.{read_so}
 use Rattle.tcl_evaluation.proofs.Standing.{literal_parts_stand}
-use Rattle.tcl_evaluation.proofs.Steps.{literal_goes, script_goes, script_stays, single_goes, variable_goes, within_fits, word_stays}
+use Rattle.tcl_evaluation.proofs.Steps.{closing_goes, literal_goes, script_goes, script_stays, single_goes, variable_goes, within_fits, word_stays}
 
 -- the front of a text within the limit is within it
 shorter_fits : (front rest : List ℕ) → fits (front ++ rest) ≡ true → fits front ≡ true
@@ -34,7 +38,7 @@ shorter_fits front rest h =
 
 -- a literal stands for its text
 pub literal_stands : (frames : Levels) (word : WordRead) (text : List ℕ) → word ≡ literal_word text → fits text ≡ true → StandsFor frames word text
-literal_stands frames word text e f = record { single = ap (λ (w : WordRead). w.expand) e; short = f; by = subst (λ (ps : List Part). PartsStand frames ps text) (sym (ap (λ (w : WordRead). w.parts) e)) (literal_parts_stand frames text) }
+literal_stands frames word text e f = record { single = ap (λ (w : WordRead). w.expand) e; short = f; by = inl (subst (λ (ps : List Part). PartsStand frames ps text) (sym (ap (λ (w : WordRead). w.parts) e)) (literal_parts_stand frames text)) }
 
 -- where none of the words is a sum, all stand for texts
 pub none_sums : (style : Integers) (n : Node Own) (ws : List WordRead) (ts : List (List ℕ)) → AllEnd style n ws false ts → AllStand n.own.chain.frames ws ts
@@ -47,13 +51,13 @@ none_sums style n (w ∷ ws) (x ∷ ts) (inr h) = let clash : false ≡ true = h
 module _ {S : Type 0} {ways : Ways S} (style : Integers) where
   -- ## Words that stand for texts
 
-  part_goes : {T : Tree Own} {o : S} {p : Path} {n : Node Own} {r : Ending} (x : Part) (ps : List Part) (before text : List ℕ) → T p ≡ Some n → PartStands n.own.chain.frames x text → fits (before ++ text) ≡ true →
-      Proceeds ways (language style) T o p (parts ps [] (before ++ text)) T o r → Proceeds ways (language style) T o p (parts (x ∷ ps) [] before) T o r
-  part_goes (Literal more) ps before text there e short t = literal_goes style more ps [] before (ap (λ (v : List ℕ). fits (before ++ v)) e ∙ short) (at_prog (ap (λ (v : List ℕ). parts ps [] (before ++ v)) e) t)
-  part_goes (Variable name) ps before text there e short t = variable_goes style name text ps [] before there e short t
-  part_goes (Element name) ps before text there e short t = elim e [ ]
-  part_goes EndElement ps before text there e short t = elim e [ ]
-  part_goes (Script inner) ps before text there e short t = elim e [ ]
+  part_goes : {T : Tree Own} {o : S} {p : Path} {n : Node Own} {r : Ending} (x : Part) (ps : List Part) (elements : List Open) (before text : List ℕ) → T p ≡ Some n → PartStands n.own.chain.frames x text → fits (before ++ text) ≡ true →
+      Proceeds ways (language style) T o p (parts ps elements (before ++ text)) T o r → Proceeds ways (language style) T o p (parts (x ∷ ps) elements before) T o r
+  part_goes (Literal more) ps elements before text there e short t = literal_goes style more ps elements before (ap (λ (v : List ℕ). fits (before ++ v)) e ∙ short) (at_prog (ap (λ (v : List ℕ). parts ps elements (before ++ v)) e) t)
+  part_goes (Variable name) ps elements before text there e short t = variable_goes style name text ps elements before there e short t
+  part_goes (Element name) ps elements before text there e short t = elim e [ ]
+  part_goes EndElement ps elements before text there e short t = elim e [ ]
+  part_goes (Script inner) ps elements before text there e short t = elim e [ ]
 
   parts_go : {T : Tree Own} {o : S} {p : Path} {n : Node Own} (ps : List Part) (before text : List ℕ) → T p ≡ Some n → PartsStand n.own.chain.frames ps text → fits (before ++ text) ≡ true →
       Proceeds ways (language style) T o p (parts ps [] before) T o (Some (Completed (ok (before ++ text))))
@@ -61,12 +65,27 @@ module _ {S : Type 0} {ways : Ways S} (style : Integers) where
   parts_go (x ∷ ps) before text there h short =
       let whole : fits ((before ++ h.0) ++ h.1) ≡ true = ap fits (append_assoc before h.0 h.1 ∙ ap (λ (t : List ℕ). before ++ t) (sym h.2)) ∙ short in
       let all : before ++ text ≡ (before ++ h.0) ++ h.1 = ap (λ (t : List ℕ). before ++ t) h.2 ∙ sym (append_assoc before h.0 h.1) in
-      part_goes x ps before h.0 there h.3 (shorter_fits (before ++ h.0) h.1 whole)
+      part_goes x ps [] before h.0 there h.3 (shorter_fits (before ++ h.0) h.1 whole)
       (at_reply (ap (λ (t : List ℕ). Completed (ok t)) all) (parts_go ps (before ++ h.0) h.1 there h.4 whole))
+
+  element_goes : {T : Tree Own} {o : S} {p : Path} {n : Node Own} (ps : List Part) (text : List ℕ) → T p ≡ Some n → ElementStands n.own.chain.frames ps text → fits text ≡ true →
+      Proceeds ways (language style) T o p (parts ps [] []) T o (Some (Completed (ok text)))
+  element_goes {n = n} ps text there e short =
+      let element : Open = record { name = e.array; before = [] } in
+      let closes : Closes n (element ∷ []) e.key [] text = (refl, subst (λ (held : Result (List ℕ) FrameFault). AtOk held (λ v. (fits ([] ++ v) ≡ true) × (text ≡ [] ++ v))) (sym e.holds) (short, refl)) in
+      at_prog (ap (λ (qs : List Part). parts qs [] []) e.are)
+      (goes_done {i = Parts (e.part ∷ EndElement ∷ []) (element ∷ []) []}
+      (part_goes e.part (EndElement ∷ []) (element ∷ []) [] e.key there e.stands e.short
+      (closing_goes style [] (element ∷ []) [] e.key text there closes completed)))
+
+  pub word_stands_goes : {T : Tree Own} {o : S} {p : Path} {n : Node Own} (ps : List Part) (text : List ℕ) → T p ≡ Some n → WordStands n.own.chain.frames ps text → fits text ≡ true →
+      Proceeds ways (language style) T o p (parts ps [] []) T o (Some (Completed (ok text)))
+  word_stands_goes ps text there (inl h) short = parts_go ps [] text there h short
+  word_stands_goes ps text there (inr h) short = element_goes ps text there h short
 
   stands_goes : {T V : Tree Own} {o z : S} {p : Path} {n : Node Own} {r : Ending} (word : WordRead) (rest : List WordRead) (before : List (List ℕ)) (text : List ℕ) → T p ≡ Some n → StandsFor n.own.chain.frames word text →
       Proceeds ways (language style) T o p (words rest (before ++ text ∷ [])) V z r → Proceeds ways (language style) T o p (words (word ∷ rest) before) V z r
-  stands_goes word rest before text there s t = single_goes style word rest before (ok text) text s.single refl refl (parts_go word.parts [] text there s.by s.short) t
+  stands_goes word rest before text there s t = single_goes style word rest before (ok text) text s.single refl refl (word_stands_goes word.parts text there s.by s.short) t
 
   all_stand : {T V : Tree Own} {o z : S} {p : Path} {n : Node Own} {r : Ending} (ws rest : List WordRead) (before ts : List (List ℕ)) → T p ≡ Some n → AllStand n.own.chain.frames ws ts →
       Proceeds ways (language style) T o p (words rest (before ++ ts)) V z r → Proceeds ways (language style) T o p (words (ws ++ rest) before) V z r

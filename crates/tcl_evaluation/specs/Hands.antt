@@ -17,6 +17,7 @@ use Rattle.tcl_interpreter.specs.declared.builtin.Builtin.TheVariants.{Expr}
 use Rattle.tcl_interpreter.specs.declared.command.Command.{Command}
 use Rattle.tcl_interpreter.specs.declared.command.Command.TheVariants as command
 use Rattle.tcl_language.specs.Instructions.{fits}
+use Rattle.tcl_language.specs.Scripts.{element_text}
 use Rattle.tcl_language.specs.Table.{builtin}
 use Rattle.tcl_language.specs.Words.{concat}
 use Rattle.tcl_expression_evaluation.specs.AtHand.{IsNumberAtHand}
@@ -24,6 +25,7 @@ use Rattle.tcl_parser.specs.Reading.{read_script}
 use Rattle.tcl_parser.specs.Words.{WordRead, Reading}
 use Rattle.tcl_parser.specs.declared.script.Part.{Part}
 use Rattle.tcl_parser.specs.declared.script.Part.TheVariants.{Literal, Variable, Script}
+use Rattle.tcl_parser.specs.declared.script.Part.TheVariants.{Element, EndElement}
 use Rattle.tcl_prepared.specs.Views.{literal_word}
 use Rattle.tcl_text.specs.declared.integer.Integers.{Integers}
 use Rattle.tcl_tree.specs.Own.{Own}
@@ -53,8 +55,29 @@ PartsStand frames [] text = text ≡ []
 PartsStand frames (part ∷ parts) text = (first : Text) × (rest : Text) × (text ≡ first ++ rest) ×
     PartStands frames part first × PartsStand frames parts rest
 
+-- The parts are those of one element of an array, which holds the text, and its key is a text or a
+-- variable.
+pub record ElementStands (frames : Levels) (parts : List Part) (text : Text) : Type 0 where
+  pub array : Text
+  pub part : Part
+  pub key : Text
+  pub are : parts ≡ Element array ∷ part ∷ EndElement ∷ []
+  pub stands : PartStands frames part key
+  pub short : fits key ≡ true
+  pub holds : read frames (element_text array key) ≡ Ok text
+
+-- the parts are texts and variables, or an element of an array, and stand for the text
+abbrev pub WordStands : Levels → List Part → Text → Type 0
+WordStands frames parts text = PartsStand frames parts text ⊎ ElementStands frames parts text
+
 -- the word isn't spread, and its parts stand for the text
 pub record StandsFor (frames : Levels) (word : WordRead) (text : Text) : Type 0 where
+  pub single : word.expand ≡ false
+  pub short : fits text ≡ true
+  pub by : WordStands frames word.parts text
+
+-- and so where its parts are texts and variables
+pub record StandsPlainly (frames : Levels) (word : WordRead) (text : Text) : Type 0 where
   pub single : word.expand ≡ false
   pub short : fits text ≡ true
   pub by : PartsStand frames word.parts text

@@ -1,16 +1,19 @@
 //! What is at hand: words, commands, and sums and answers in brackets.
-ghost use Rattle.std.specs.Prelude.{◌≡◌, ◌∷◌, [], true, false, List, map, IfSome};
+ghost use Rattle.std.specs.Prelude.{◌≡◌, ◌∷◌, [], true, false, List, map, Ok, IfOk, IfSome};
 ghost use Rattle.tcl_core.specs.Paths.{Text};
 ghost use Rattle.tcl_commands.specs.Kinds.{is_plain};
 ghost use Rattle.tcl_language.specs.Instructions.{fits};
 ghost use Rattle.tcl_parser.specs.declared.script.Part.TheVariants.{Script};
 ghost use Rattle.std.specs.String.{string_bytes};
+ghost use Rattle.tcl_frames.specs.Chain.{read};
+ghost use Rattle.tcl_language.specs.Scripts.{element_text};
 ghost use Rattle.tcl_prepared.specs.Views.{seen_part, seen_word};
-ghost use Rattle.tcl_evaluation.specs.Hands.{AllStand, EndsIn, IsAnswer, IsAnsweredIn};
-ghost use Rattle.tcl_evaluation.specs.Hands.{IsCountedIn, IsSumIn, PartAdds, PartsStand, StandsFor};
+ghost use Rattle.tcl_evaluation.specs.Hands.{AllStand, ElementStands, EndsIn, IsAnswer};
+ghost use Rattle.tcl_evaluation.specs.Hands.{IsAnsweredIn, IsCountedIn, IsSumIn, PartAdds};
+ghost use Rattle.tcl_evaluation.specs.Hands.{PartStands, PartsStand, StandsFor, StandsPlainly};
 ghost use Rattle.tcl_evaluation.specs.Hands.{one_of};
 
-use std::alloc::Global;
+use std::alloc::{AllocError, Global};
 use tcl_calls::expressions::{expression_of_words, number_at};
 use tcl_calls::lookup::builtin_named;
 use tcl_commands::texts::string_value;
@@ -78,10 +81,91 @@ fn parts_at_hand(frames: &Frames, alloc: Global, parts: &[PreparedPart]) -> Opti
     Value::from_text(Text::from_string(alloc, text).ok()?).ok()
 }
 
+/// The room that the name of an element has at first, in bytes.
+const NAME_ROOM: usize = 48;
+
+/// What a part stands for over these frames, where it is a text or a variable of the current one.
+fn part_at_hand(frames: &Frames, part: &PreparedPart) -> Option<Value>
+    ensures { IfSome result (λ value. PartStands frames.now.frames (seen_part part.now) value) }
+{
+    match part {
+        PreparedPart::Literal(text) => Value::from_text(text.clone().ok()?).ok(),
+        PreparedPart::Variable(name) => frames.scalar_near(name)?.clone().ok(),
+        _ => None,
+    }
+}
+
+/// The name of an element of an array, `a(k)`.
+fn element_name(alloc: Global, array: &str, key: &Value) -> Result<Text, AllocError>
+    ensures { IfOk result (λ name. name ≡ element_text array.now key.now) }
+{
+    let mut name = String::with_capacity(alloc, NAME_ROOM)?;
+    name.push_str(array)?;
+    name.push_str("(")?;
+    key.write_to(alloc, &mut name)?;
+    name.push_str(")")?;
+    Text::from_string(alloc, name)
+}
+
+/// What the variable of a name, or the element, holds over these frames.
+fn held_at_hand(frames: &Frames, name: &Text) -> Option<Value>
+    ensures { IfSome result (λ value. read frames.now.frames name.now ≡ Ok value) }
+{
+    frames.get(name).ok()?.clone().ok()
+}
+
+/// What an element of an array holds over these frames.
+fn held_element(frames: &Frames, alloc: Global, array: &str, key: &Value) -> Option<Value>
+    ensures { IfSome result (λ value. read frames.now.frames (element_text array.now key.now)
+        ≡ Ok value) }
+{
+    let name = element_name(alloc, array, key).ok()?;
+    held_at_hand(frames, &name)
+}
+
+/// What parts stand for over these frames, where they are those of one element of an array, whose
+/// key is a text or a variable of the current one.
+fn element_at_hand(frames: &Frames, alloc: Global, parts: &[PreparedPart]) -> Option<Value>
+    ensures { IfSome result (λ value. ElementStands frames.now.frames (map seen_part parts.now)
+        value) }
+{
+    let [first, second, third] = parts else {
+        return None;
+    };
+    let PreparedPart::Element(array) = first else {
+        return None;
+    };
+    let PreparedPart::EndElement = third else {
+        return None;
+    };
+    let key = known_short(part_at_hand(frames, second)?);
+    held_element(frames, alloc, array.as_str(), &key)
+}
+
+/// Whether a word begins as an element of an array does. A hint, of which contracts say nothing.
+fn may_be_element(word: &PreparedWord) -> bool {
+    match word {
+        PreparedWord::Parts(parts) => {
+            matches!(parts.as_slice().first(), Some(PreparedPart::Element(_)))
+        }
+        _ => false,
+    }
+}
+
+/// What a word stands for over these frames, where it is an element of an array.
+fn element_word_at_hand(frames: &Frames, alloc: Global, word: &PreparedWord) -> Option<Value>
+    ensures { IfSome result (λ value. StandsFor frames.now.frames (seen_word word.now) value) }
+{
+    let PreparedWord::Parts(parts) = word else {
+        return None;
+    };
+    Some(known_short(element_at_hand(frames, alloc, parts.as_slice())?))
+}
+
 /// What a word stands for over these frames, where its parts are texts and variables of the current
 /// one.
-fn value_at_hand(frames: &Frames, alloc: Global, word: &PreparedWord) -> Option<Value>
-    ensures { IfSome result (λ value. StandsFor frames.now.frames (seen_word word.now) value) }
+fn plain_word_at_hand(frames: &Frames, alloc: Global, word: &PreparedWord) -> Option<Value>
+    ensures { IfSome result (λ value. StandsPlainly frames.now.frames (seen_word word.now) value) }
 {
     let value = match word {
         PreparedWord::Literal(value) => value.clone().ok()?,
@@ -95,8 +179,19 @@ fn value_at_hand(frames: &Frames, alloc: Global, word: &PreparedWord) -> Option<
     Some(known_short(value))
 }
 
+/// What a word stands for over these frames, where its parts are texts and variables of the current
+/// one, or it is an element of an array.
+fn value_at_hand(frames: &Frames, alloc: Global, word: &PreparedWord) -> Option<Value>
+    ensures { IfSome result (λ value. StandsFor frames.now.frames (seen_word word.now) value) }
+{
+    if may_be_element(word) {
+        return element_word_at_hand(frames, alloc, word);
+    }
+    plain_word_at_hand(frames, alloc, word)
+}
+
 /// What a word stands for in the interpreter, where its parts are texts and variables of the
-/// current frame.
+/// current frame, or it is an element of an array.
 fn word_at_hand(tree: &Tree, alloc: Global, place: Place, word: &PreparedWord) -> Option<Value>
     ensures { IfSome result (λ value. EndsIn tree.now place (seen_word word.now) false value) }
 {

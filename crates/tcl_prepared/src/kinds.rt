@@ -22,12 +22,20 @@ fn is_plain_part(part: &PreparedPart) -> bool {
     matches!(part, PreparedPart::Literal(_) | PreparedPart::Variable(_))
 }
 
-/// Whether a word is made of texts and variables, and isn't spread.
+/// Whether parts are those of one element of an array, whose key is a text or a variable.
+fn is_element(parts: &[PreparedPart]) -> bool {
+    match parts {
+        [PreparedPart::Element(_), key, PreparedPart::EndElement] => is_plain_part(key),
+        _ => false,
+    }
+}
+
+/// Whether a word is made of texts and variables, or is an element of an array, and isn't spread.
 fn is_plain(word: &PreparedWord) -> bool {
     match word {
         PreparedWord::Literal(_) | PreparedWord::Name(_) => true,
         PreparedWord::Lone(part) => is_plain_part(part),
-        PreparedWord::Parts(parts) => parts.iter().all(is_plain_part),
+        PreparedWord::Parts(parts) => parts.iter().all(is_plain_part) || is_element(parts),
         PreparedWord::Spread(_) => false,
     }
 }
