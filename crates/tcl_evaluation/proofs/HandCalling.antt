@@ -68,6 +68,7 @@ module _ {S : Type 0} {ways : Ways S} (style : Integers) where
       part_goes x ps [] before h.0 there h.3 (shorter_fits (before ++ h.0) h.1 whole)
       (at_reply (ap (λ (t : List ℕ). Completed (ok t)) all) (parts_go ps (before ++ h.0) h.1 there h.4 whole))
 
+  -- the parts of one element of an array come to what it holds
   element_goes : {T : Tree Own} {o : S} {p : Path} {n : Node Own} (ps : List Part) (text : List ℕ) → T p ≡ Some n → ElementStands n.own.chain.frames ps text → fits text ≡ true →
       Proceeds ways (language style) T o p (parts ps [] []) T o (Some (Completed (ok text)))
   element_goes {n = n} ps text there e short =
@@ -78,7 +79,8 @@ module _ {S : Type 0} {ways : Ways S} (style : Integers) where
       (part_goes e.part (EndElement ∷ []) (element ∷ []) [] e.key there e.stands e.short
       (closing_goes style [] (element ∷ []) [] e.key text there closes completed)))
 
-  pub word_stands_goes : {T : Tree Own} {o : S} {p : Path} {n : Node Own} (ps : List Part) (text : List ℕ) → T p ≡ Some n → WordStands n.own.chain.frames ps text → fits text ≡ true →
+  -- the parts of a word at hand come to its text, whichever it is
+  word_stands_goes : {T : Tree Own} {o : S} {p : Path} {n : Node Own} (ps : List Part) (text : List ℕ) → T p ≡ Some n → WordStands n.own.chain.frames ps text → fits text ≡ true →
       Proceeds ways (language style) T o p (parts ps [] []) T o (Some (Completed (ok text)))
   word_stands_goes ps text there (inl h) short = parts_go ps [] text there h short
   word_stands_goes ps text there (inr h) short = element_goes ps text there h short
