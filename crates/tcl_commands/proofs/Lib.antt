@@ -22,3 +22,4 @@ pub mod Otherwise
 pub mod SubcommandNames
 pub mod Statuses
 pub mod DictCalls
+pub mod SetParts

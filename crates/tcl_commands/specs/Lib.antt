@@ -16,3 +16,4 @@ pub mod Exiting
 pub mod Kinds
 pub mod Named
 pub mod Subcommands
+pub mod Setting

@@ -7,6 +7,7 @@ pub mod arrays;
 pub mod assigning;
 pub mod changes;
 pub mod changing;
+mod cutting;
 pub mod definitions;
 pub mod dicts;
 pub mod ends;

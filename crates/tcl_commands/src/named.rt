@@ -11,6 +11,7 @@ ghost use Rattle.tcl_commands.specs.Named.{builtin_of, words_of};
 ghost use Rattle.tcl_commands.specs.Sums.{added_words};
 ghost use Rattle.tcl_interpreter.specs.declared.builtin.Builtin.TheVariants as name;
 
+use crate::cutting::set_part;
 use crate::growing::{Growth, grow_variable, raise_variable};
 use crate::steps::set_variable_near;
 use std::alloc::Global;
@@ -18,6 +19,7 @@ use tcl_frames::variable_name::VariableName;
 use tcl_run::interruption::Interruption;
 use tcl_tree::builtin::Builtin;
 use tcl_tree::tree::{Place, Tree};
+use tcl_value::list_part::ListPart;
 use tcl_value::value::Value;
 
 /// A command that changes a variable, with its words behind the variable's name.
@@ -25,6 +27,8 @@ use tcl_value::value::Value;
 pub enum VariableChange {
     /// `set varName newValue`.
     Set(Value),
+    /// `set varName newValue`, where the value is a part of a list.
+    Part(ListPart),
     /// `incr varName ?increment?` by a number at hand, or by 1 where there is none.
     Raise(Option<i64>),
     /// `incr varName increment`.
@@ -167,6 +171,7 @@ pub fn change_variable(
 {
     match change {
         VariableChange::Set(value) => set(tree, alloc, place, name, value),
+        VariableChange::Part(part) => set_part(tree, alloc, place, name, part),
         VariableChange::Raise(by) => raise(tree, alloc, place, name, by),
         VariableChange::Incr(by) => incr(tree, alloc, place, name, by),
         VariableChange::Append(value) => append(tree, alloc, place, name, value),

@@ -1,5 +1,5 @@
 //! The commands on texts.
-ghost use Rattle.std.specs.Prelude.{◌≡◌};
+ghost use Rattle.std.specs.Prelude.{◌≡◌, ◌∷◌, []};
 ghost use Rattle.tcl_format.specs.Filling.{format_of};
 ghost use Rattle.tcl_language.specs.Data.{answered};
 ghost use Rattle.tcl_run.specs.Plain.{Acts};
@@ -13,9 +13,49 @@ use tcl_format::command;
 use tcl_run::interruption::Interruption;
 use tcl_strings::ensemble;
 use tcl_text::integer::Integers;
+use tcl_text::text::Text;
 use tcl_tree::tree::{Place, Tree};
 use tcl_value::value::Value;
 use tcl_words::refusal::Refusal;
+
+/// What `string` gives of these texts.
+fn string_answer(alloc: Global, style: Integers, texts: &[Text]) -> Result<Value, Refusal>
+    ensures { Gives (λ value. value) result (string_of style texts.now) }
+{
+    let answer = ensemble::string(alloc, style, texts)?;
+    Ok(answer_value(answer))
+}
+
+/// The same of two words, for whose texts no list is made.
+fn answer_of_two(
+    alloc: Global,
+    style: Integers,
+    first: &Value,
+    second: &Value,
+) -> Result<Value, Refusal>
+    ensures { Gives (λ value. value) result (string_of style (first.now ∷ second.now ∷ [])) }
+{
+    let first = first.text(alloc)?;
+    let second = second.text(alloc)?;
+    string_answer(alloc, style, &[first, second])
+}
+
+/// The same of three.
+fn answer_of_three(
+    alloc: Global,
+    style: Integers,
+    first: &Value,
+    second: &Value,
+    third: &Value,
+) -> Result<Value, Refusal>
+    ensures { Gives (λ value. value) result
+        (string_of style (first.now ∷ second.now ∷ third.now ∷ [])) }
+{
+    let first = first.text(alloc)?;
+    let second = second.text(alloc)?;
+    let third = third.text(alloc)?;
+    string_answer(alloc, style, &[first, second, third])
+}
 
 /// What `string` gives.
 ///
@@ -24,9 +64,14 @@ use tcl_words::refusal::Refusal;
 pub fn string_value(alloc: Global, style: Integers, args: &[Value]) -> Result<Value, Refusal>
     ensures { Gives (λ value. value) result (string_of style args.now) }
 {
-    let texts = texts_of(alloc, args)?;
-    let answer = ensemble::string(alloc, style, texts.as_slice())?;
-    Ok(answer_value(answer))
+    match args {
+        [first, second] => answer_of_two(alloc, style, first, second),
+        [first, second, third] => answer_of_three(alloc, style, first, second, third),
+        _ => {
+            let texts = texts_of(alloc, args)?;
+            string_answer(alloc, style, texts.as_slice())
+        }
+    }
 }
 
 /// What `format` gives.

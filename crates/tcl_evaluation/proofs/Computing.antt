@@ -1,5 +1,6 @@
 -- What expressions compute that were read.
 use Rattle.std.proofs.Common.{◌≡◌, ℤ, pos, ◌≤◌, true, List, [], ◌∷◌, length, Some, refl, sym, ap, subst, arith}
+use Rattle.std.specs.Prelude.{Ok}
 use Rattle.std.specs.Fmt.{signed_decimal}
 use Rattle.tcl_core.specs.Endings.{Completion, ok}
 use Rattle.tcl_core.specs.Endings.Reply.{Completed}
@@ -27,6 +28,7 @@ use Rattle.tcl_parser.specs.declared.script.Part.{Part}
 use Rattle.tcl_run.specs.Runs.{Proceeds, Ways}
 use Rattle.tcl_run.proofs.Proceeding.{at_prog, at_reply, goes_done, grows, reads_on}
 use Rattle.tcl_text.specs.declared.integer.Integers.{Integers}
+use Rattle.tcl_value.specs.Reading.{int_of}
 use Rattle.tcl_tree.specs.Own.{Own}
 use Rattle.std.proofs.lemmas.Option.{same_Some}
 use Rattle.tcl_calls.specs.Expressions.{IsKept, settles}
@@ -53,13 +55,17 @@ module _ {S : Type 0} {ways : Ways S} (style : Integers) where
       (at_prog (ap (λ (ps : List Part). parts ps [] []) l.is) (Steps.variable_goes style l.name l.value [] [] [] there l.holds l.short completed))
       (at_hand (next l.value) t k there l.on s)
 
+  -- a computation that comes to a number settles in that number in decimal
+  pub number_settles : {T : Tree Own} {o : S} {p : Path} {n : TreeNode Own} (c : Computation) (t : Text) (m : ℤ) (v : Text) → T p ≡ Some n → comes_to n.own.chain.frames c ≡ Some t → int_of style t ≡ Ok m → v ≡ signed_decimal m →
+      Proceeds ways (language style) T o p (computed c (settles style)) T o (Some (Completed (ok v)))
+  number_settles c t m v there h reads e = at_hand c t (settles style) there h (reads_on operator_message (λ result. done (ok result)) (ap (settled t) reads) (at_reply (ap (λ (x : Text). Completed (ok x)) e) completed))
+
   -- an expression whose operands are numbers at hand comes to its number in decimal
   pub number_at_hand : {T : Tree Own} {o : S} {p : Path} {n : TreeNode Own} (s : Integers) (nodes : List Node) (m : ℤ) (v : Text) → s ≡ style → T p ≡ Some n → IsNumberAtHand n.own.chain.frames s nodes m → v ≡ signed_decimal m →
       Proceeds ways (language style) T o p (computed (from style nodes 0 []) (settles style)) T o (Some (Completed (ok v)))
   number_at_hand {T} {o} {p} {n} s nodes m v same there h e =
       let w = subst (λ (x : Integers). IsNumberAtHand n.own.chain.frames x nodes m) same h in
-      at_hand (from style nodes 0 []) w.0 (settles style) there w.1
-      (reads_on operator_message (λ result. done (ok result)) (ap (settled w.0) w.2) (at_reply (ap (λ (x : Text). Completed (ok x)) e) completed))
+      number_settles (from style nodes 0 []) w.0 m v there w.1 w.2 e
 
   pub expr_runs : {T V : Tree Own} {o z : S} {p : Path} {r : Ending} (args : List Text) → 1 ≤ length args → fits (concat args) ≡ true →
       Proceeds ways (language style) T o p (expression style (concat args)) V z r → Proceeds ways (language style) T o p (expr args) V z r

@@ -168,3 +168,7 @@ two_end style n v w a b c x y e h k = ends_append style n (v ∷ []) (w ∷ []) 
 pub some_more : {X : Type 0} (o : Option X) (P Q : X → Type 0) → ((x : X) → P x → Q x) → IfSome o P → IfSome o Q
 some_more None P Q f h = tt
 some_more (Some x) P Q f h = f x h
+
+pub some_both : {X : Type 0} (o : Option X) (P Q R : X → Type 0) → ((x : X) → P x → Q x → R x) → IfSome o P → IfSome o Q → IfSome o R
+some_both None P Q R f h k = tt
+some_both (Some x) P Q R f h k = f x h k

@@ -19,6 +19,7 @@ mod Alone
 pub mod HandCalling
 mod Counting
 pub mod Computing
+mod FirstOperands
 pub mod Found
 pub mod Own
 pub mod HandPlainly

@@ -21,7 +21,7 @@ use Rattle.tcl_run.specs.Ends.{Breaks, Says, Stays, too_deep_at}
 use Rattle.tcl_run.specs.Runs.{Counts, Proceeds, RefusesStep, Ways}
 use Rattle.tcl_run.specs.Runs.RefusesStep.{by_limit, from_outside}
 use Rattle.tcl_run.specs.declared.interruption.Interruption.{Interruption}
-use Rattle.tcl_run.proofs.Endings.{breaks_said}
+use Rattle.tcl_run.proofs.Endings.{Breaks-more, breaks_said}
 use Rattle.tcl_run.proofs.Proceeding.{at_prog, completed}
 use Rattle.tcl_text.specs.declared.integer.Integers.{Integers}
 use Rattle.tcl_tree.specs.Own.{Own}
@@ -51,6 +51,11 @@ ok_more (Err e) h f = tt
 pub says_breaks : {A : Type 0} (r : Result A Interruption) (P : Reply → Type 0) (Q : Ending → Type 0) → IfErr r (λ i. Says i P) → ((e : Reply) → P e → Q (Some e)) → IfErr r (λ i. Breaks i Q)
 says_breaks (Ok a) P Q h f = tt
 says_breaks (Err i) P Q h f = breaks_said i P Q f h
+
+-- and how far it came
+pub breaks_more : {A : Type 0} (r : Result A Interruption) (P Q : Ending → Type 0) → ((e : Ending) → P e → Q e) → IfErr r (λ i. Breaks i P) → IfErr r (λ i. Breaks i Q)
+breaks_more (Ok a) P Q f h = tt
+breaks_more (Err i) P Q f h = Breaks-more i P Q f h
 
 module _ {S : Type 0} {ways : Ways S} (style : Integers) {T U V W : Tree Own} {o z : S} {p : Path} {n : Node Own} (script : Reading) (text : List ℕ) (sum : IsSum style n script text) where
   -- the step of its `expr` is counted

@@ -1,5 +1,5 @@
 //! Changes of variables by commands whose words are at hand.
-ghost use Rattle.std.specs.Prelude.{◌≡◌, ◌∷◌, map, IfSome, Some};
+ghost use Rattle.std.specs.Prelude.{◌≡◌, ◌∷◌, [], map, true, IfSome, Some};
 ghost use Rattle.tcl_commands.specs.Named.{builtin_of, words_of};
 ghost use Rattle.tcl_core.specs.Paths.{Path};
 ghost use Rattle.tcl_core.specs.Trees as core;
@@ -12,6 +12,7 @@ ghost use Rattle.tcl_evaluation.specs.Hands.{AllEnd, IsChangeIn};
 ghost use Rattle.tcl_evaluation.specs.Sums.{CallsBuiltin, CallsBuiltinAtHand};
 
 use crate::hands::end_at_hand;
+use crate::list_parts::{may_be_part, part_at_hand};
 use crate::sums::count_first;
 use std::alloc::Global;
 use tcl_calls::lookup::builtin_named;
@@ -24,6 +25,29 @@ use tcl_run::steps::charge;
 use tcl_tree::builtin::Builtin;
 use tcl_tree::tree::{Place, Tree};
 use tcl_value::value::Value;
+
+/// The `set` of a variable to a part of a list, if the command is `set` and the word behind the
+/// variable's name is a part of one. The script in brackets isn't counted yet.
+fn part_change(
+    tree: &Tree,
+    alloc: Global,
+    place: Place,
+    builtin: Builtin,
+    word: &PreparedWord,
+) -> Option<VariableChange>
+    ensures command { IfSome result (λ change. builtin_of change ≡ builtin) }
+    ensures words { IfSome result (λ change. (p : Path) (n : core.Node Own) →
+        Names tree.now place p → tree_of tree.now p ≡ Some n → AllEnd (marks_of tree.now).integers n
+        (seen_word word.now ∷ []) true (words_of change)) }
+{
+    match builtin {
+        Builtin::Set => {
+            let part = part_at_hand(tree, alloc, place, word)?;
+            Some(VariableChange::Part(part))
+        }
+        _ => None,
+    }
+}
 
 /// The change that a built-in command makes with these words behind the variable's name, where they
 /// are at hand and it changes a variable, and whether one of them is a sum or an answer in
@@ -46,6 +70,11 @@ fn change_of_words(
             _ => None,
         },
         [word] => {
+            if matches!(builtin, Builtin::Set) && may_be_part(word) {
+                if let Some(change) = part_change(tree, alloc, place, builtin, word) {
+                    return Some((change, true));
+                }
+            }
             let (value, sums) = end_at_hand(tree, alloc, place, word)?;
             let change = VariableChange::of_word(builtin, value)?;
             Some((change, sums))

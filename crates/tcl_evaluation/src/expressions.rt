@@ -8,6 +8,7 @@ ghost use Rattle.tcl_run.specs.Runs.{IsHere, IsRunning, Keeps, ProceedsIn, ways}
 ghost use Rattle.tcl_evaluation.specs.Conditional.{Computes, TestGoes, TestBreaks, TurnGoes};
 ghost use Rattle.tcl_evaluation.specs.Conditional.{TurnBreaks};
 
+use crate::behind::{count_behind, number_behind};
 use crate::evaluation::{eval_read, eval_value};
 use crate::operands::eval_operand;
 use std::alloc::Global;
@@ -60,7 +61,8 @@ fn compute<O: Outside>(
     }
 }
 
-/// The same. Where all operands are numbers at hand, it is computed at once.
+/// The same. Where all operands are numbers at hand, but for the first, which may be a sum or an
+/// answer at hand in brackets, it is computed at once.
 ///
 /// # Errors
 /// 111 to 113 and 212 to 216 of the operands; those of what is substituted; want of memory.
@@ -81,6 +83,10 @@ fn expression<O: Outside>(
 {
     let style = tree.integers();
     if let Some(number) = number_at(tree, place, style, kept) {
+        return Ok(Value::from_int(number));
+    }
+    if let Some(number) = number_behind(tree, alloc, place, kept) {
+        count_behind(tree, alloc, outside, place)?;
         return Ok(Value::from_int(number));
     }
     let mut evaluation = Evaluation::new(alloc);
@@ -108,6 +114,10 @@ fn condition<O: Outside>(
 {
     let style = tree.integers();
     if let Some(number) = number_at(tree, place, style, test) {
+        return Ok(number != 0);
+    }
+    if let Some(number) = number_behind(tree, alloc, place, test) {
+        count_behind(tree, alloc, outside, place)?;
         return Ok(number != 0);
     }
     let value = on_ok(compute(tree, alloc, outside, place, evaluation, test))?;

@@ -45,6 +45,10 @@ pub fn is_plain(builtin: Builtin) -> bool
     }
 }
 
+/// The room that a text has at first which is put together, in bytes, beside what is known of it:
+/// as much as the allocator of the C library gives at the least.
+const TEXT_ROOM: usize = 24;
+
 /// Whether a part is a text or a variable.
 fn is_plain_part(part: &PreparedPart) -> bool {
     matches!(part, PreparedPart::Literal(_) | PreparedPart::Variable(_))
@@ -62,6 +66,18 @@ fn add_part(frames: &Frames, alloc: Global, part: &PreparedPart, text: &mut Stri
     }
 }
 
+/// The room, in bytes, that a text has at first which is put together of parts: that of the first
+/// where it is a variable, and some for the others. A hint, of which contracts say nothing.
+fn room_for(frames: &Frames, parts: &[PreparedPart]) -> usize {
+    match parts.first() {
+        Some(PreparedPart::Variable(name)) => match frames.scalar_near(name) {
+            Some(value) => value.text_len() + TEXT_ROOM,
+            None => TEXT_ROOM,
+        },
+        _ => TEXT_ROOM,
+    }
+}
+
 /// What parts stand for over these frames, one behind the other, where each of them is a text or a
 /// variable of the current one.
 fn parts_at_hand(frames: &Frames, alloc: Global, parts: &[PreparedPart]) -> Option<Value>
@@ -71,7 +87,7 @@ fn parts_at_hand(frames: &Frames, alloc: Global, parts: &[PreparedPart]) -> Opti
     if !parts.iter().all(is_plain_part) {
         return None;
     }
-    let mut text = String::new(alloc);
+    let mut text = String::with_capacity(alloc, room_for(frames, parts)).ok()?;
     'parts: for part in parts {
         add_part(frames, alloc, part, &mut text)?;
         if text.len() > MOST_BYTES {
@@ -181,7 +197,7 @@ fn plain_word_at_hand(frames: &Frames, alloc: Global, word: &PreparedWord) -> Op
 
 /// What a word stands for over these frames, where its parts are texts and variables of the current
 /// one, or it is an element of an array.
-fn value_at_hand(frames: &Frames, alloc: Global, word: &PreparedWord) -> Option<Value>
+pub(crate) fn value_at_hand(frames: &Frames, alloc: Global, word: &PreparedWord) -> Option<Value>
     ensures { IfSome result (λ value. StandsFor frames.now.frames (seen_word word.now) value) }
 {
     if may_be_element(word) {
@@ -318,7 +334,7 @@ pub fn counted_at_hand(
 }
 
 /// The script in brackets that a word is.
-fn bracket_of(word: &PreparedWord) -> Option<&Bracket>
+pub(crate) fn bracket_of(word: &PreparedWord) -> Option<&Bracket>
     ensures { IfSome result (λ bracket. seen_word word.now
         ≡ record { parts = Script bracket.now ∷ []; expand = false }) }
 {

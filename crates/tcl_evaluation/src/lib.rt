@@ -2,6 +2,7 @@
 #![tactic(auto)]
 
 mod at_hand;
+mod behind;
 pub mod calls;
 mod changes;
 mod children;
@@ -14,6 +15,7 @@ mod expressions;
 pub mod hands;
 mod hosting;
 mod interpreters;
+mod list_parts;
 mod loops;
 mod operands;
 mod sourcing;

@@ -18,12 +18,13 @@ use Rattle.tcl_expression_evaluation.specs.Apply.{apply_unary, apply_binary}
 use Rattle.tcl_expr.specs.declared.operator.UnaryOperator.{UnaryOperator}
 use Rattle.tcl_expr.specs.declared.operator.BinaryOperator.{BinaryOperator}
 use Rattle.tcl_expr.specs.declared.token.Leaf.{Leaf}
+use Rattle.tcl_expr.specs.declared.token.Leaf.TheVariants.{Substituted}
 use Rattle.tcl_expr.specs.declared.tree.Node.{Node}
 use Rattle.tcl_expr.specs.declared.tree.Node.TheVariants as node
 use Rattle.tcl_expression_evaluation.specs.Computations.{Computation, substitute, operand, and_then}
 use Rattle.tcl_expression_evaluation.specs.Steps.{doing, goes, from, top, below}
-use Rattle.tcl_expression_evaluation.proofs.Going.{done_at, done_past}
-use Rattle.tcl_expression_evaluation.specs.AtHand.{comes_to, given, text_read, variable_value, short_text, ReadAs, Brings, IsNumberAtHand, steps_of_two}
+use Rattle.tcl_expression_evaluation.proofs.Going.{done_at, done_past, goes_doing}
+use Rattle.tcl_expression_evaluation.specs.AtHand.{comes_to, given, text_read, variable_value, short_text, ReadAs, Brings, IsNumberAtHand, IsNumberFrom, steps_behind}
 use Rattle.tcl_expression_evaluation.proofs.Waiting.{none_wait, pushed, popped}
 
 -- ## Steps
@@ -109,47 +110,68 @@ two_applied None frames style o texts all more numbers x y wait is then fits mad
 
 -- ## The whole
 
--- up to a step, with these numbers waiting behind it
-pub record UnderWay (frames : Levels) (style : Integers) (code : List Node) (i : ℕ) (numbers : List ℤ) : Type 0 where
+-- up to a step from where the first texts waited, with these numbers waiting behind it
+pub record UnderWay (frames : Levels) (style : Integers) (first : List Bytes) (code : List Node) (i : ℕ) (numbers : List ℤ) : Type 0 where
   pub texts : List Bytes
   pub wait : ReadAs style texts numbers
-  pub same : comes_to frames (from style code 0 []) ≡ comes_to frames (from style code i texts)
+  pub same : comes_to frames (from style code 0 first) ≡ comes_to frames (from style code i texts)
 
-pub begins : (frames : Levels) (style : Integers) (code : List Node) (numbers : List ℤ) → [] ≡ numbers → UnderWay frames style code 0 numbers
-begins frames style code numbers is = record { texts = []; wait = none_wait style numbers is; same = refl }
+pub begins : (frames : Levels) (style : Integers) (first : List Bytes) (code : List Node) (numbers : List ℤ) → ReadAs style first numbers → UnderWay frames style first code 0 numbers
+begins frames style first code numbers wait = record { texts = first; wait = wait; same = refl }
 
-pub goes_on : (frames : Levels) (style : Integers) (code : List Node) (i : ℕ) (n : Node) (numbers left all : List ℤ) (x : ℤ) → UnderWay frames style code i numbers → i < length code → n ≡ get_or code i n →
-    ((texts : List Bytes) → ReadAs style texts numbers → Brings frames style n texts left x) → all ≡ left ++ x ∷ [] → UnderWay frames style code (i + 1) all
-goes_on frames style code i n numbers left all x u within is brings pushes = let b = brings u.texts u.wait in record {
+pub goes_on : (frames : Levels) (style : Integers) (first : List Bytes) (code : List Node) (i : ℕ) (n : Node) (numbers left all : List ℤ) (x : ℤ) → UnderWay frames style first code i numbers → i < length code → n ≡ get_or code i n →
+    ((texts : List Bytes) → ReadAs style texts numbers → Brings frames style n texts left x) → all ≡ left ++ x ∷ [] → UnderWay frames style first code (i + 1) all
+goes_on frames style first code i n numbers left all x u within is brings pushes = let b = brings u.texts u.wait in record {
   texts = b.before ++ b.text ∷ [];
   wait = subst (ReadAs style (b.before ++ b.text ∷ [])) (sym pushes) (pushed style b.before left b.text x b.stay b.reads);
   same = u.same ∙ ap (comes_to frames) (done_at style code i n u.texts within is) ∙ b.goes_on (goes style (drop (i + 1) code));
 }
 
-end : (frames : Levels) (style : Integers) (code : List Node) (i : ℕ) (numbers left : List ℤ) (x : ℤ) → UnderWay frames style code i numbers → length code ≤ i → numbers ≡ left ++ x ∷ [] → IsNumberAtHand frames style code x
-end frames style code i numbers left x u past is = let p = popped style u.texts numbers left x u.wait is in
+end : (frames : Levels) (style : Integers) (first : List Bytes) (code : List Node) (i : ℕ) (numbers left : List ℤ) (x : ℤ) → UnderWay frames style first code i numbers → length code ≤ i → numbers ≡ left ++ x ∷ [] → IsNumberFrom frames style first code x
+end frames style first code i numbers left x u past is = let p = popped style u.texts numbers left x u.wait is in
     (top u.texts, u.same ∙ ap (comes_to frames) (done_past style code i u.texts past), p.last)
 
-pub ends : (r : Option ℤ) (frames : Levels) (style : Integers) (code : List Node) (i : ℕ) (numbers left : List ℤ) → UnderWay frames style code i numbers → length code ≤ i → numbers ≡ left ++ option_to_list r → IfSome r (λ n. IsNumberAtHand frames style code n)
-ends (Some n) frames style code i numbers left u past is = end frames style code i numbers left n u past is
-ends None frames style code i numbers left u past is = tt
+pub ends : (r : Option ℤ) (frames : Levels) (style : Integers) (first : List Bytes) (code : List Node) (i : ℕ) (numbers left : List ℤ) → UnderWay frames style first code i numbers → length code ≤ i → numbers ≡ left ++ option_to_list r → IfSome r (λ n. IsNumberFrom frames style first code n)
+ends (Some n) frames style first code i numbers left u past is = end frames style first code i numbers left n u past is
+ends None frames style first code i numbers left u past is = tt
 
--- ## Two operands and an operator
+-- ## An operand and an operator behind one that waits
 
-two_read : (frames : Levels) (style : Integers) (l r : Leaf) (o : BinaryOperator) (a b : Bytes) (x y n : ℤ) →
-    ((next : Bytes → Computation) → comes_to frames (operand l next) ≡ comes_to frames (next a)) → int_of style a ≡ Ok x →
+-- the one that waits reads as its number
+one_waits : (style : Integers) (text : Bytes) (n : ℤ) → int_of style text ≡ Ok n → ReadAs style (text ∷ []) (n ∷ [])
+one_waits style text n reads = pushed style [] [] text n (none_wait style [] refl) reads
+
+pub first_waits : (style : Integers) (text : Bytes) (n : ℤ) (none all : List ℤ) → none ≡ [] → all ≡ none ++ n ∷ [] → int_of style text ≡ Ok n → ReadAs style (text ∷ []) all
+first_waits style text n none all is pushes reads = subst (ReadAs style (text ∷ [])) (sym (pushes ∙ ap (λ ns. ns ++ n ∷ []) is)) (one_waits style text n reads)
+
+with_read : (frames : Levels) (style : Integers) (r : Leaf) (o : BinaryOperator) (a b : Bytes) (x y n : ℤ) → int_of style a ≡ Ok x →
     ((next : Bytes → Computation) → comes_to frames (operand r next) ≡ comes_to frames (next b)) → int_of style b ≡ Ok y → FitsSigned w64 n →
-    ((style : Integers) (a b : Bytes) → int_of style a ≡ Ok x → int_of style b ≡ Ok y → apply_binary style o a b ≡ Ok (signed_decimal n)) → IsNumberAtHand frames style (steps_of_two l o r) n
-two_read frames style l r o a b x y n left reads right reads' fits made =
-    let code = steps_of_two l o r in
-    let u = goes_on frames style code 0 (node.Operand l) [] [] (x ∷ []) x (begins frames style code [] refl) (omega (arith)) refl (λ texts wait. brought frames style l texts [] a x wait left reads) refl in
-    let v = goes_on frames style code 1 (node.Operand r) (x ∷ []) (x ∷ []) (x ∷ y ∷ []) y u (omega (arith)) refl (λ texts wait. brought frames style r texts (x ∷ []) b y wait right reads') refl in
-    let w = goes_on frames style code 2 (node.Binary o) (x ∷ y ∷ []) [] (n ∷ []) n v (omega (arith)) refl (λ texts wait. two_gone frames style o texts (x ∷ y ∷ []) (x ∷ []) [] x y n wait refl refl fits made) refl in
-    end frames style code 3 (n ∷ []) [] n w (omega (arith)) refl
+    ((style : Integers) (a b : Bytes) → int_of style a ≡ Ok x → int_of style b ≡ Ok y → apply_binary style o a b ≡ Ok (signed_decimal n)) → IsNumberFrom frames style (a ∷ []) (steps_behind r o) n
+with_read frames style r o a b x y n reads right reads' fits made =
+    let code = steps_behind r o in
+    let u = begins frames style (a ∷ []) code (x ∷ []) (one_waits style a x reads) in
+    let v = goes_on frames style (a ∷ []) code 0 (node.Operand r) (x ∷ []) (x ∷ []) (x ∷ y ∷ []) y u (omega (arith)) refl (λ texts wait. brought frames style r texts (x ∷ []) b y wait right reads') refl in
+    let w = goes_on frames style (a ∷ []) code 1 (node.Binary o) (x ∷ y ∷ []) [] (n ∷ []) n v (omega (arith)) refl (λ texts wait. two_gone frames style o texts (x ∷ y ∷ []) (x ∷ []) [] x y n wait refl refl fits made) refl in
+    end frames style (a ∷ []) code 2 (n ∷ []) [] n w (omega (arith)) refl
 
-pub two_computed : (found : Option ℤ) (frames : Levels) (style : Integers) (l r : Leaf) (o : BinaryOperator) (a b : Bytes) (x y : ℤ) →
-    ((next : Bytes → Computation) → comes_to frames (operand l next) ≡ comes_to frames (next a)) → int_of style a ≡ Ok x →
+pub computed_with : (found : Option ℤ) (frames : Levels) (style : Integers) (r : Leaf) (o : BinaryOperator) (a b : Bytes) (x y : ℤ) → int_of style a ≡ Ok x →
     ((next : Bytes → Computation) → comes_to frames (operand r next) ≡ comes_to frames (next b)) → int_of style b ≡ Ok y → IfSome found (λ n. FitsSigned w64 n) →
-    IfSome found (λ n. (style : Integers) (a b : Bytes) → int_of style a ≡ Ok x → int_of style b ≡ Ok y → apply_binary style o a b ≡ Ok (signed_decimal n)) → IfSome found (λ n. IsNumberAtHand frames style (steps_of_two l o r) n)
-two_computed (Some n) frames style l r o a b x y left reads right reads' fits made = two_read frames style l r o a b x y n left reads right reads' fits made
-two_computed None frames style l r o a b x y left reads right reads' fits made = tt
+    IfSome found (λ n. (style : Integers) (a b : Bytes) → int_of style a ≡ Ok x → int_of style b ≡ Ok y → apply_binary style o a b ≡ Ok (signed_decimal n)) → IfSome found (λ n. IsNumberFrom frames style (a ∷ []) (steps_behind r o) n)
+computed_with (Some n) frames style r o a b x y reads right reads' fits made = with_read frames style r o a b x y n reads right reads' fits made
+computed_with None frames style r o a b x y reads right reads' fits made = tt
+
+-- ## Steps behind a first operand
+
+-- a first operand that comes to a text, behind which the rest of the steps come to a number
+behind : (frames : Levels) (style : Integers) (l : Leaf) (rest : List Node) (a : Bytes) (n : ℤ) → ((next : Bytes → Computation) → comes_to frames (operand l next) ≡ comes_to frames (next a)) →
+    IsNumberFrom frames style (a ∷ []) rest n → IsNumberAtHand frames style (node.Operand l ∷ rest) n
+behind frames style l rest a n left h = (h.0, ap (comes_to frames) (goes_doing style (node.Operand l) rest []) ∙ left (λ v. goes style rest doing (v ∷ [])) ∙ h.1, h.2)
+
+pub some_behind : (found : Option ℤ) (frames : Levels) (style : Integers) (l : Leaf) (rest : List Node) (a : Bytes) → ((next : Bytes → Computation) → comes_to frames (operand l next) ≡ comes_to frames (next a)) →
+    IfSome found (λ n. IsNumberFrom frames style (a ∷ []) rest n) → IfSome found (λ n. IsNumberAtHand frames style (node.Operand l ∷ rest) n)
+some_behind (Some n) frames style l rest a left h = behind frames style l rest a n left h
+some_behind None frames style l rest a left h = tt
+
+-- a first operand that is substituted, and the rest of the steps behind it
+pub first_substituted : (style : Integers) (word : WordRead) (rest : List Node) → from style (node.Operand (Substituted word) ∷ rest) 0 [] ≡ substitute word (λ v. from style rest 0 (v ∷ []))
+first_substituted style word rest = goes_doing style (node.Operand (Substituted word)) rest []

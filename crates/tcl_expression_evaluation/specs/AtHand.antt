@@ -50,12 +50,21 @@ abbrev pub IsNumberAtHand : Levels → Integers → List Node → ℤ → Type 0
 IsNumberAtHand frames style code n = (text : Bytes) ×
     (comes_to frames (from style code 0 []) ≡ Some text) × (int_of style text ≡ Ok n)
 
+-- and so do they where these texts wait for their operators already
+abbrev pub IsNumberFrom : Levels → Integers → List Bytes → List Node → ℤ → Type 0
+IsNumberFrom frames style waiting code n = (text : Bytes) ×
+    (comes_to frames (from style code 0 waiting) ≡ Some text) × (int_of style text ≡ Ok n)
+
 -- ## What the functions do
 
 -- the steps of an expression of two operands and an operator
 abbrev pub steps_of_two : Leaf → BinaryOperator → Leaf → List Node
 steps_of_two left operator right =
     node.Operand left ∷ node.Operand right ∷ node.Binary operator ∷ []
+
+-- the steps of such an expression behind its first operand
+abbrev pub steps_behind : Leaf → BinaryOperator → List Node
+steps_behind right operator = node.Operand right ∷ node.Binary operator ∷ []
 
 -- each text reads as the number at its place
 unfoldable pub ReadAs : Integers → List Bytes → List ℤ → Type 0

@@ -8,6 +8,7 @@ ghost use Rattle.tcl_value.specs.Reading.{int_of};
 ghost use Rattle.tcl_expression_evaluation.specs.Apply.{apply_unary, apply_binary};
 ghost use Rattle.tcl_expression_evaluation.specs.Computations.{Computation, operand};
 ghost use Rattle.tcl_expression_evaluation.specs.AtHand.{comes_to, IsNumberAtHand, steps_of_two};
+ghost use Rattle.tcl_expression_evaluation.specs.AtHand.{IsNumberFrom, steps_behind};
 ghost use Rattle.tcl_expression_evaluation.specs.AtHand.{ReadAs, Brings};
 
 use crate::apply::{compute, holds};
@@ -35,7 +36,44 @@ pub fn number_at_hand(frames: &Frames, style: Integers, tree: &ExprTree) -> Opti
     if let Some((left, operator, right)) = operator_between(nodes) {
         return number_of_two(frames, style, left, operator, right);
     }
-    number_of_steps(frames, style, nodes)
+    number_of_steps(frames, style, nodes, ArrayVec::new())
+}
+
+/// The number that these steps come to behind a value that waits for its operator already, where
+/// that reads as a number, each operand among them is a number at hand, and each operator computes
+/// with numbers or compares them. None wherever that isn't found so. This takes no memory.
+#[inline(never)]
+pub fn number_from(frames: &Frames, style: Integers, first: &Value, rest: &[Node]) -> Option<i64>
+    ensures { IfSome result
+        (λ n. IsNumberFrom frames.now.frames style (first.now ∷ []) rest.now n) }
+{
+    if let Some((right, operator)) = operator_behind(rest) {
+        return number_with(frames, style, first, operator, right);
+    }
+    let mut waiting = ArrayVec::<i64, MOST_WAITING>::new();
+    waiting.push(first.int(style).ok()?);
+    number_of_steps(frames, style, rest, waiting)
+}
+
+/// Whether steps behind a first operand may come to a number at hand. A hint, of which contracts
+/// say nothing: [`number_from`] looks at the values.
+pub fn may_be_numbers(rest: &[Node]) -> bool {
+    rest.iter().all(may_bring_number)
+}
+
+/// Whether a step is an operand that may be a number at hand, or an operator of numbers.
+fn may_bring_number(step: &Node) -> bool {
+    match step {
+        Node::Operand(Leaf::Literal(_)) | Node::Unary(_) => true,
+        Node::Operand(Leaf::Substituted(operand)) => operand.variable().is_some(),
+        Node::Binary(operator) => {
+            matches!(
+                kind_of(*operator),
+                Kind::Arithmetic(_) | Kind::Comparison(_)
+            )
+        }
+        _ => false,
+    }
 }
 
 /// The two operands and the operator that the steps are, if they are no more.
@@ -54,6 +92,19 @@ fn operator_between(nodes: &[Node]) -> Option<(&Leaf, BinaryOperator, &Leaf)>
     }
 }
 
+/// The second operand and the operator that the steps are, if they are no more.
+fn operator_behind(nodes: &[Node]) -> Option<(&Leaf, BinaryOperator)>
+    ensures { IfSome result (λ found. nodes.now ≡ steps_behind found.0.now found.1) }
+{
+    let [second, third] = nodes else {
+        return None;
+    };
+    match (second, third) {
+        (Node::Operand(right), Node::Binary(operator)) => Some((right, *operator)),
+        _ => None,
+    }
+}
+
 /// The number that an operator makes of two operands, where both are numbers at hand.
 fn number_of_two(
     frames: &Frames,
@@ -65,16 +116,38 @@ fn number_of_two(
     ensures { IfSome result (λ n. IsNumberAtHand frames.now.frames style
         (steps_of_two left.now operator right.now) n) }
 {
-    let x = value_at_hand(frames, left)?.int(style).ok()?;
+    number_with(frames, style, value_at_hand(frames, left)?, operator, right)
+}
+
+/// The number that an operator makes of a value that waits for it and of an operand, where that
+/// reads as a number and this is a number at hand.
+#[inline(always)]
+fn number_with(
+    frames: &Frames,
+    style: Integers,
+    left: &Value,
+    operator: BinaryOperator,
+    right: &Leaf,
+) -> Option<i64>
+    ensures { IfSome result (λ n. IsNumberFrom frames.now.frames style (left.now ∷ [])
+        (steps_behind right.now operator) n) }
+{
+    let x = left.int(style).ok()?;
     let y = value_at_hand(frames, right)?.int(style).ok()?;
     apply_to_numbers(operator, x, y)
 }
 
-/// The number that steps come to, one after another.
-fn number_of_steps(frames: &Frames, style: Integers, nodes: &[Node]) -> Option<i64>
-    ensures { IfSome result (λ n. IsNumberAtHand frames.now.frames style nodes.now n) }
+/// The number that steps come to, one after another, behind numbers that wait already.
+#[inline(always)]
+fn number_of_steps(
+    frames: &Frames,
+    style: Integers,
+    nodes: &[Node],
+    mut waiting: ArrayVec<i64, MOST_WAITING>,
+) -> Option<i64>
+    ensures { (texts : List Bytes) → ReadAs style texts waiting.items → IfSome result
+        (λ n. IsNumberFrom frames.now.frames style texts nodes.now n) }
 {
-    let mut waiting = ArrayVec::<i64, MOST_WAITING>::new();
     let mut next = 0;
     'steps: while let Some(node) = nodes.get(next) {
         next += 1;
@@ -88,6 +161,7 @@ fn number_of_steps(frames: &Frames, style: Integers, nodes: &[Node]) -> Option<i
 }
 
 /// The number that a step makes of those that wait, the last of which are its operands and go.
+#[inline(always)]
 fn number_of_step(
     frames: &Frames,
     style: Integers,

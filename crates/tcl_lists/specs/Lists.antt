@@ -23,6 +23,12 @@ Texts = List (List ℕ)
 abbrev pub list_value : Texts → Outcome
 list_value l = limited (write l)
 
+-- a call returned the elements of the list that is the outcome, which may be too long for a value;
+-- or its refusal is the outcome
+abbrev pub GivesPart : Result Texts Refusal → Outcome → Type 0
+GivesPart (Ok part) outcome = outcome ≡ list_value part
+GivesPart (Err e) outcome = Refuses e outcome
+
 -- a word that must stand, and those behind it
 abbrev pub first_and_rest : List ℕ → Texts → Result (List ℕ × Texts) (List ℕ)
 first_and_rest form [] = Err (wrong_arguments form)

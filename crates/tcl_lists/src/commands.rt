@@ -6,6 +6,7 @@ ghost use Rattle.tcl_words.specs.Spans.{before, from, span};
 ghost use Rattle.tcl_words.specs.Words.{index_word};
 ghost use Rattle.tcl_lists.specs.Lists.{list_value, list_of, llength_of, lrange_of, linsert_of};
 ghost use Rattle.tcl_lists.specs.Lists.{lreplace_of, lreverse_of, lassign_rest, behind_span};
+ghost use Rattle.tcl_lists.specs.Lists.{GivesPart};
 
 use crate::building::{list_value, part_value, push_words, spliced_value};
 use crate::places::{before_place, up_to_place};
@@ -16,6 +17,7 @@ use tcl_text::index::Index;
 use tcl_text::integer::Integers;
 use tcl_text::limit::MOST_BYTES;
 use tcl_value::list::List;
+use tcl_value::list_part::ListPart;
 use tcl_value::value::Value;
 use tcl_words::refusal::{Refusal, too_long};
 
@@ -54,12 +56,26 @@ pub fn llength(alloc: Global, words: &[Value]) -> Result<Value, Refusal>
 }
 
 /// The elements from one place of a list to another.
-fn span_value(alloc: Global, list: &List, first: Index, last: Index) -> Result<Value, Refusal>
-    ensures { Gives (λ value. value) result (list_value (span first last list.now)) }
+fn span_part(list: List, first: Index, last: Index) -> ListPart
+    ensures { result ≡ span first last list }
 {
     let end = up_to_place(last, list.len());
     let first = before_place(first, list.len()).min(end);
-    part_value(alloc, list, first, end)
+    ListPart::new(list, first, end)
+}
+
+/// The elements that `lrange` gives, which aren't made a list of their own yet.
+///
+/// # Errors
+/// 241, 101 to 104, 114; want of memory.
+pub fn lrange_part(alloc: Global, style: Integers, words: &[Value]) -> Result<ListPart, Refusal>
+    ensures { GivesPart result (lrange_of style words.now) }
+{
+    let (word, first, last) = three_words(alloc, words, "lrange list first last")?;
+    let list = list_word(alloc, word)?;
+    let first = index_word(alloc, style, list.len(), first)?;
+    let last = index_word(alloc, style, list.len(), last)?;
+    Ok(span_part(list, first, last))
 }
 
 /// `lrange list first last`: the elements from one index to another.
@@ -69,11 +85,9 @@ fn span_value(alloc: Global, list: &List, first: Index, last: Index) -> Result<V
 pub fn lrange(alloc: Global, style: Integers, words: &[Value]) -> Result<Value, Refusal>
     ensures { Gives (λ value. value) result (lrange_of style words.now) }
 {
-    let (word, first, last) = three_words(alloc, words, "lrange list first last")?;
-    let list = list_word(alloc, word)?;
-    let first = index_word(alloc, style, list.len(), first)?;
-    let last = index_word(alloc, style, list.len(), last)?;
-    span_value(alloc, &list, first, last)
+    let part = lrange_part(alloc, style, words)?;
+    let list = part.into_list(alloc)?;
+    list_value(alloc, list)
 }
 
 /// A list with words before a place.

@@ -2,7 +2,7 @@
 use Rattle.std.proofs.Common.{◌≡◌, ℕ, ◌+◌, ◌-◌, ◌<◌, ◌≤◌, ◌^◌, suc, zero, Bool, true, false, List, [], ◌∷◌, ◌++◌, length, refl, sym, ◌∙◌, ap, subst, arith, get_or, take, drop}
 use Rattle.std.specs.Prelude.{◌==◌}
 use Rattle.std.specs.List.{AppendsClones}
-use Rattle.std.proofs.lemmas.List.{drop-take, length-drop}
+use Rattle.std.proofs.lemmas.List.{drop-take, length-drop, length-take}
 use Rattle.tcl_value.specs.Texts.{weight_from, weight, element_text, texts, AreElements, IsSame}
 use Rattle.tcl_value.specs.declared.element.Element.{Element}
 use Rattle.tcl_value.proofs.Weights.{size, starts_at, starts_at_test, weight_at_most, texts-get, same_all}
@@ -83,3 +83,18 @@ pub clones_behind : (xs new part : List Element) → AppendsClones IsSame xs new
 clones_behind xs new part (ys, e, z) =
     let same = same_all part ys z in
     (ap texts e ∙ texts-append xs ys ∙ ap (λ t. texts xs ++ t) same.0, λ h k. subst AreElements (sym e) (AreElements-append xs ys h (same.1 k)))
+
+-- ## Elements that are kept
+
+take_front : {A : Type 0} (n : ℕ) (xs ys : List A) → length xs ≡ n → take n (xs ++ ys) ≡ xs
+take_front zero [] ys h = refl
+take_front zero (x ∷ xs) ys h = absurd (omega arith)
+take_front (suc n) [] ys h = absurd (omega arith)
+take_front {A = A} (suc n) (x ∷ xs) ys h = ap (λ (zs : List A). x ∷ zs) (take_front n xs ys (omega arith))
+
+-- what stands behind the others is turned to the front, and they go
+pub kept_part : (xs : List Element) (i j : ℕ) → i ≤ j → j ≤ length xs → take (j - i) (drop i (take j xs) ++ take i (take j xs)) ≡ drop i (take j xs)
+kept_part xs i j h k = take_front (j - i) (drop i (take j xs)) (take i (take j xs)) (omega (arith, length-drop i (take j xs), length-take j xs))
+
+pub texts-kept : (xs : List Element) (now : List (List ℕ)) (i j : ℕ) → texts xs ≡ now → texts (drop i (take j xs)) ≡ drop i (take j now)
+texts-kept xs now i j v = texts-drop i (take j xs) ∙ ap (drop i) (texts-take j xs ∙ ap (take j) v)

@@ -11,3 +11,4 @@ pub mod DictChanges
 pub mod Laws
 pub mod Inside
 pub mod Plain
+pub mod Parts

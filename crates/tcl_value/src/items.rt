@@ -406,6 +406,30 @@ impl Items {
         })
     }
 
+    /// Whether the text of its elements from one place up to another is short enough for a value.
+    pub(crate) fn is_part_within(&self, from: usize, to: usize) -> bool
+        requires order { from ≤ to }
+        requires within { to ≤ length self.now }
+        ensures { IsTrue result ↔ IsWithin (write (drop from (take to self.now))) }
+    {
+        self.part_weight(true, from, to) <= MOST_WEIGHT
+    }
+
+    /// Keeps its elements from one place up to another, and lets all others go.
+    pub(crate) fn keep(&mut self, from: usize, to: usize)
+        requires order { from ≤ to }
+        requires within { to ≤ length self.old }
+        ensures { self.new ≡ drop from (take to self.old) }
+    {
+        let weight = self.part_weight(true, from, to);
+        let depth = self.part_depth(from, to);
+        self.elements.truncate(to);
+        self.elements.rotate_left(from);
+        self.elements.truncate(to - from);
+        self.weight = weight;
+        self.depth = depth;
+    }
+
     /// Adds the elements of another list from one place up to another, all of them or none.
     ///
     /// # Errors

@@ -7,5 +7,6 @@ mod element;
 mod entries;
 mod items;
 pub mod list;
+pub mod list_part;
 pub mod value;
 pub mod value_laws;

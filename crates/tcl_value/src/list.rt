@@ -236,6 +236,31 @@ impl List {
         Ok(List { items })
     }
 
+    /// Whether the text of its elements from one place up to another is short enough for a value.
+    pub(crate) fn is_part_within(&self, from: usize, to: usize) -> bool
+        requires order { from ≤ to }
+        requires within { to ≤ length self.now }
+        ensures { IsTrue result ↔ IsWithin (write (drop from (take to self.now))) }
+    {
+        self.items.is_part_within(from, to)
+    }
+
+    /// Its elements from one place up to another. Where nobody shares it and they are half of it or
+    /// more, it loses all others, and nothing is copied.
+    pub(crate) fn into_part(self, alloc: Global, from: usize, to: usize) -> Result<List, AllocError>
+        requires order { from ≤ to }
+        requires within { to ≤ length self }
+        ensures { IfOk result (λ part. part ≡ drop from (take to self)) }
+    {
+        let is_shared = Rc::strong_count(&self.items) > 1;
+        if is_shared || to - from < self.items.len() / 2 {
+            return self.slice(alloc, from, to);
+        }
+        let List { mut items } = self;
+        Rc::make_mut(&mut items)?.keep(from, to);
+        Ok(List { items })
+    }
+
     /// Adds the elements of another list from one place up to another, all of them or none.
     ///
     /// # Errors

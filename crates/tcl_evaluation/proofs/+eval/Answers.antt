@@ -154,6 +154,7 @@ use Rattle.tcl_run.proofs.Losing.{lost_again, lost_once}
 use Rattle.tcl_run.proofs.Proceeding.{does_proceeds, stopped, stopped_by}
 use Rattle.tcl_language.specs.Definitions as definitions
 use Rattle.tcl_interpreter.specs.declared.builtin.Builtin.{Builtin}
+use Rattle.tcl_evaluation.proofs.FirstOperands.{computes_behind}
 use Rattle.tcl_evaluation.proofs.HandPlainly.{acts_proceeds, sum_in, unchanged_runs}
 use Rattle.tcl_evaluation.specs.Sums.{CallsAtHand, CallsBuiltin, CallsBuiltinAtHand, CallsNamed, CallsOnHand}
 use Rattle.tcl_interpreter.specs.declared.command.Command.TheVariants as command
@@ -1476,6 +1477,22 @@ expressions::expression-returns-in-Some-clause-runs g t c = λ q style at text i
     Computing.computes_kept style text c.args.kept.now is
     (Computing.number_at_hand style c.integers-style.result c.args.kept.now.nodes.items c.in-Some.number c.from_int.result same n.1 (c.in-Some.ensures q n.0 at.names n.1) made)
 
+pub expressions::expression-returns-in_err-count_behind-clause-runs : goal.expressions::expression-returns-in_err-count_behind-clause-runs
+expressions::expression-returns-in_err-count_behind-clause-runs g t c =
+    let p = err_from_is_err_and c.from_residual.result c.from_residual.ensures.1 in
+    ran_err c.from_residual.result c.in_err-count_behind.field-0.0 p.0 _ _ _ p.1 p.2 c.in_err-count_behind.ensures.breaks
+    (λ e h. computes_behind (ways g.O.Outside.goes g.O.Outside.loses) c.args.tree.now c.count_behind.new.tree c.args.outside.now c.count_behind.new.outside c.args.place c.args.kept.now c.in-Some-number_behind.number (λ n. e) c.in-Some-number_behind.ensures h.1)
+
+pub expressions::expression-returns-in_err-count_behind-clause-here : goal.expressions::expression-returns-in_err-count_behind-clause-here
+expressions::expression-returns-in_err-count_behind-clause-here g t c = on_completion c.from_residual.result (IsHere c.args.tree.now c.count_behind.new.tree c.args.place) c.count_behind.ensures.here
+
+pub expressions::expression-returns-in-Some-number_behind-clause-runs : goal.expressions::expression-returns-in-Some-number_behind-clause-runs
+expressions::expression-returns-in-Some-number_behind-clause-runs g t c =
+    let fits : FitsSigned w64 c.in-Some-number_behind.number = search rules in
+    let made : c.from_int-in-Some-number_behind.result ≡ signed_decimal c.in-Some-number_behind.number = c.from_int-in-Some-number_behind.ensures ∙ ap signed_decimal (to_z-of_z w64 c.in-Some-number_behind.number fits) in
+    subst (λ (text : List ℕ). ComputesTo (ways g.O.Outside.goes g.O.Outside.loses) c.args.tree.now c.args.outside.now c.args.place c.args.kept.now c.count_behind.new.tree c.count_behind.new.outside (Some (Completed (ok text)))) (sym made)
+    (computes_behind (ways g.O.Outside.goes g.O.Outside.loses) c.args.tree.now c.count_behind.new.tree c.args.outside.now c.count_behind.new.outside c.args.place c.args.kept.now c.in-Some-number_behind.number _ c.in-Some-number_behind.ensures c.in_ok-count_behind.ensures.computed)
+
 pub expressions::compute-returns-in_err-operand-clause-runs : goal.expressions::compute-returns-in_err-operand-clause-runs
 expressions::compute-returns-in_err-operand-clause-runs g t c =
     let p = err_from_is_err_and c.from_residual.result c.from_residual.ensures.1 in
@@ -1552,10 +1569,27 @@ expressions::condition-returns-in-Some-clause-runs g t c = λ q style at text is
     (Computing.computes_kept style text c.args.test.now is
     (Computing.number_at_hand style c.integers-style.result c.args.test.now.nodes.items c.in-Some.number (signed_decimal c.in-Some.number) same n.1 (c.in-Some.ensures q n.0 at.names n.1) refl)) run
 
+pub expressions::condition-returns-in_err-count_behind-clause-runs : goal.expressions::condition-returns-in_err-count_behind-clause-runs
+expressions::condition-returns-in_err-count_behind-clause-runs g t c =
+    let p = err_from_is_err_and c.from_residual.result c.from_residual.ensures.1 in
+    ran_err c.from_residual.result c.in_err-count_behind.field-0.0 p.0 _ _ _ p.1 p.2 c.in_err-count_behind.ensures.breaks
+    (λ e h q style at text is k. Conditions.test_stays style text k e h.0
+    (computes_behind (ways g.O.Outside.goes g.O.Outside.loses) c.args.tree.now c.count_behind.new.tree c.args.outside.now c.count_behind.new.outside c.args.place c.args.test.now c.in-Some-number_behind.number (λ n. e) c.in-Some-number_behind.ensures h.1 q style at text is))
+
+pub expressions::condition-returns-in_err-count_behind-clause-here : goal.expressions::condition-returns-in_err-count_behind-clause-here
+expressions::condition-returns-in_err-count_behind-clause-here g t c = on_completion c.from_residual.result (IsHere c.args.tree.now c.count_behind.new.tree c.args.place) c.count_behind.ensures.here
+
+pub expressions::condition-returns-in-Some-number_behind-clause-runs : goal.expressions::condition-returns-in-Some-number_behind-clause-runs
+expressions::condition-returns-in-Some-number_behind-clause-runs g t c = λ q style at text is k V y r run.
+    let fits : FitsSigned w64 c.in-Some-number_behind.number = search rules in
+    Conditions.test_goes style text k (ok (signed_decimal c.in-Some-number_behind.number)) (signed_decimal c.in-Some-number_behind.number) _ refl refl
+    (truth_of_number style (signed_decimal c.in-Some-number_behind.number) c.in-Some-number_behind.number fits (int_of-number style c.in-Some-number_behind.number fits))
+    (computes_behind (ways g.O.Outside.goes g.O.Outside.loses) c.args.tree.now c.count_behind.new.tree c.args.outside.now c.count_behind.new.outside c.args.place c.args.test.now c.in-Some-number_behind.number _ c.in-Some-number_behind.ensures c.in_ok-count_behind.ensures.computed q style at text is) run
+
 pub expressions::condition-returns-in_err-value-clause-runs : goal.expressions::condition-returns-in_err-value-clause-runs
 expressions::condition-returns-in_err-value-clause-runs g t c =
-    let p = err_from_is_err_and c.from_residual.result c.from_residual.ensures.1 in
-    ran_err c.from_residual.result c.in_err-value.field-0.0 p.0 _ _ _ p.1 p.2
+    let p = err_from_is_err_and c.from_residual-in_err-value.result c.from_residual-in_err-value.ensures.1 in
+    ran_err c.from_residual-in_err-value.result c.in_err-value.field-0.0 p.0 _ _ _ p.1 p.2
     (stays_of c.compute.result c.in_err-value.field-0.0 (ComputesTo (ways g.O.Outside.goes g.O.Outside.loses) c.args.tree.now c.args.outside.now c.args.place c.args.test.now c.compute.new.tree c.compute.new.outside)
     c.in_err-value.ensures.same c.compute.ensures.runs c.in_err-value.ensures.stays)
     (λ e h q style at text is k. Conditions.test_stays style text k e h.1 (h.0 q style at text is))
@@ -3424,8 +3458,8 @@ expressions::compute-returns-in-Done-clause-here g t c = on_completion c.settle.
 
 pub expressions::condition-returns-in_err-value-clause-here : goal.expressions::condition-returns-in_err-value-clause-here
 expressions::condition-returns-in_err-value-clause-here g t c =
-    let p = err_from_is_err_and c.from_residual.result c.from_residual.ensures.1 in
-    here_passed c.from_residual.result c.compute.result c.in_err-value.field-0.0 p.0 c.args.tree.now c.args.tree.now c.compute.new.tree c.args.place p.1 p.2 c.in_err-value.ensures.same (here-refl c.args.tree.now c.args.place) c.compute.ensures.here
+    let p = err_from_is_err_and c.from_residual-in_err-value.result c.from_residual-in_err-value.ensures.1 in
+    here_passed c.from_residual-in_err-value.result c.compute.result c.in_err-value.field-0.0 p.0 c.args.tree.now c.args.tree.now c.compute.new.tree c.args.place p.1 p.2 c.in_err-value.ensures.same (here-refl c.args.tree.now c.args.place) c.compute.ensures.here
 
 pub expressions::condition-returns-clause-here : goal.expressions::condition-returns-clause-here
 expressions::condition-returns-clause-here g t c = on_completion c.holds.result (IsHere c.args.tree.now c.compute.new.tree c.args.place) (here_text c.compute.result c.in_ok-value.value c.args.tree.now c.compute.new.tree c.args.place c.in_ok-value.ensures.text c.compute.ensures.here)
