@@ -27,7 +27,8 @@ use tcl_value::value::Value;
 pub enum VariableChange {
     /// `set varName newValue`.
     Set(Value),
-    /// `set varName newValue`, where the value is a part of a list.
+    /// `set varName newValue`, where the value is a part of a list. One that is longer than a value
+    /// may be is answered as want of memory is: [`ListPart::is_within`] tells that before.
     Part(ListPart),
     /// `incr varName ?increment?` by a number at hand, or by 1 where there is none.
     Raise(Option<i64>),
