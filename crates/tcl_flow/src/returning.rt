@@ -1,5 +1,5 @@
 //! `return`, and the options dictionary of a completion.
-ghost use Rattle.std.specs.Prelude.{◌≡◌, ◌++◌, ◌∷◌, [], ◌<◌, ◌^◌, ◌-◌, IfOk, OnOk, IsErrOf};
+ghost use Rattle.std.specs.Prelude.{◌≡◌, ◌++◌, ◌∷◌, [], ◌<◌, ◌^◌, ◌-◌, IfOk, IfSome, OnOk, IsErrOf};
 ghost use Rattle.std.specs.Fmt.{decimal, signed_decimal};
 ghost use Rattle.tcl_flow.specs.Caught.{seen_caught};
 ghost use Rattle.tcl_value.specs.Limits.{IsPast};
@@ -84,6 +84,7 @@ pub fn code_of(alloc: Global, style: Integers, value: &mut Value) -> Result<Opti
 /// The level that a value is: an integer from 0 up. This takes no memory.
 pub fn level_of(style: Integers, value: &mut Value) -> Option<u64>
     ensures read { result ≡ level_of style value.old }
+    ensures small { IfSome result (λ level. level < 2 ^ 63) }
     ensures text { value.new ≡ value.old }
 {
     match value.as_int(style) {

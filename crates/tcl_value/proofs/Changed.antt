@@ -13,7 +13,7 @@ use Rattle.tcl_value.specs.Forms.{form_text, IsForm}
 use Rattle.tcl_value.specs.declared.value.ChangeError.{ChangeError}
 use Rattle.tcl_value.specs.declared.value.Form.{Form}
 use Rattle.tcl_value.proofs.Numbers.{digits_at_most}
-use Rattle.tcl_value.specs.declared.value.Form.TheVariants.{Empty, Text, Number, List as Items, Dict as Entries}
+use Rattle.tcl_value.specs.declared.value.Form.TheVariants.{Empty, Text, Number, List as Items, Dict as Entries, Read}
 use Rattle.tcl_value.specs.declared.items.Items.{Items as Listed}
 use Rattle.tcl_value.specs.declared.entries.Entries.{Entries as Paired}
 use Rattle.tcl_value.proofs.Laws.{write-no_integer}
@@ -50,6 +50,7 @@ form_within (Text text) h = h
 form_within (Number n) h = omega (arith, digits_at_most n h)
 form_within (Items items) h = h.0
 form_within (Entries entries) h = h
+form_within (Read read) h = h
 
 pub set_at : {U : Type 0} (r : Result U ChangeError) (old : List ℕ) (xs new : List (List ℕ)) (i : ℕ) (v t : List ℕ) → list_of old ≡ Ok xs → t ≡ v → OnOk r ((i < length xs) × (new ≡ set xs i t)) → OnOk r (IsWithin (write new)) → OnOk r (AtList (list_of old) (λ list. (i < length list) × (write new ≡ write (set list i v)) × IsWithin (write (set list i v))))
 set_at (Ok x) old xs new i v t e q p w =

@@ -46,10 +46,6 @@ list_of-number n h = ap list_of (sym (append_nil (signed_decimal n)) ∙ ap (λ 
 pub number_end : (n : ℤ) → FitsSigned w64 n → ends_in_backslash (signed_decimal n) ≡ false
 number_end n h = plain_end (signed_decimal n) (plain_signed n h).plain
 
-pub empty_list : (xs : List (List ℕ)) → length xs ≡ 0 → list_of [] ≡ Ok xs
-empty_list [] h = list_of-write []
-empty_list (x ∷ xs) h = absurd (omega arith)
-
 pub write-empty : (xs : List (List ℕ)) → length xs ≡ 0 → [] ≡ write xs
 write-empty [] h = refl
 write-empty (x ∷ xs) h = absurd (omega arith)

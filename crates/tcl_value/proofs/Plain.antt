@@ -84,3 +84,8 @@ ArePlain-number n list h e = subst ArePlain (sym e) (plain_number n h, tt)
 
 pub write-number : (n : ℤ) (list : List (List ℕ)) → FitsSigned w64 n → list ≡ signed_decimal n ∷ [] → signed_decimal n ≡ write list
 write-number n list h e = sym (ap write e ∙ ap (λ x. x ++ []) (write_element-number true n h) ∙ append-nil (signed_decimal n))
+
+pub write-alone : (xs : List (List ℕ)) (n : ℤ) → FitsSigned w64 n → length xs ≡ 1 → signed_decimal n ≡ get_or xs 0 (signed_decimal n) → write xs ≡ signed_decimal n
+write-alone [] n h k e = absurd (omega arith)
+write-alone (x ∷ []) n h k e = sym (write-number n (x ∷ []) h (ap (λ z. z ∷ []) (sym e)))
+write-alone (x ∷ y ∷ xs) n h k e = absurd (omega arith)

@@ -3,6 +3,7 @@ pub mod Writing
 pub mod Texts
 pub mod Falls
 pub mod Reading
+pub mod ReadTexts
 pub mod Forms
 pub mod Changes
 pub mod Dicts

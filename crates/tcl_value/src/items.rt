@@ -1,6 +1,8 @@
 //! Lists that carry no text.
 ghost use Rattle.std.specs.Prelude.{◌≡◌, ◌<◌, ◌≤◌, ◌++◌, ◌∷◌, ◌^◌, ◌+◌, ◌==◌, false, ◌&&◌, ◌↔◌, []};
-ghost use Rattle.std.specs.Prelude.{length, IfOk, OnOk, OnErr, IfErr, IsErr, IsErrOf, IsTrue};
+ghost use Rattle.std.specs.Prelude.{length, IfOk, OnOk, OnErr, IfErr, IfSome, IsErr, IsErrOf};
+ghost use Rattle.std.specs.Prelude.{IsTrue};
+ghost use Rattle.std.specs.Fmt.{signed_decimal};
 ghost use Rattle.std.specs.Prelude.{slice_index_or, slice_set, take, drop};
 ghost use Rattle.std.specs.Bool.{OnTrue, OnFalse};
 ghost use Rattle.std.specs.List.{list_all};
@@ -106,6 +108,19 @@ impl Items {
         ensures element { IsElement result.now }
     {
         &self.elements[index]
+    }
+
+    /// The number that is its only element, where it is kept as one.
+    pub(crate) fn lone_number(&self) -> Option<i64>
+        ensures { IfSome result (λ n. write self.now ≡ signed_decimal n) }
+    {
+        if self.len() != 1 {
+            return None;
+        }
+        match self.get(0) {
+            Element::Number(n) => Some(*n),
+            _ => None,
+        }
     }
 
     /// How many bytes its text has.

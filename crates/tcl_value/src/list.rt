@@ -64,11 +64,12 @@ impl List {
         List { items }
     }
 
-    /// Its elements, shared.
-    pub(crate) fn to_items(&self) -> Result<Rc<Items>, AllocError>
-        ensures { IfOk result (λ items. items.value ≡ self.now) }
+    /// Its elements.
+    pub(crate) fn into_items(self) -> Rc<Items>
+        ensures { result.value ≡ self }
     {
-        self.items.clone()
+        let List { items } = self;
+        items
     }
 
     /// Its elements, borrowed.

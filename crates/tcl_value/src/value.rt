@@ -4,7 +4,7 @@ ghost use Rattle.std.specs.Prelude.{OnOk, OnErr};
 ghost use Rattle.std.specs.Prelude.{IsErrOf, IfErr, MatchResult, IfSome, Some, false, IsTrue};
 ghost use Rattle.std.specs.Fmt.{signed_decimal};
 ghost use Rattle.std.specs.String.{string_bytes};
-ghost use Rattle.tcl_value.specs.Limits.{Bytes, IsWithin, IsPast};
+ghost use Rattle.tcl_value.specs.Limits.{IsWithin, IsPast};
 ghost use Rattle.tcl_value.specs.Writing.{write};
 ghost use Rattle.tcl_value.specs.Texts.{element_text, flat, IsElement};
 ghost use Rattle.tcl_value.specs.Reading.{int_of, list_of};
@@ -14,6 +14,7 @@ ghost use Rattle.tcl_value.specs.Dicts.{without, dict_of, GivesDict};
 ghost use Rattle.tcl_value.specs.Plain.{ArePlain};
 
 mod changing;
+pub(crate) mod read_text;
 pub(crate) mod shared;
 
 use crate::dict::Dict;
@@ -22,6 +23,7 @@ use crate::element::Element;
 use crate::entries::Entries;
 use crate::items::Items;
 use crate::list::List;
+use crate::value::read_text::ReadText;
 use itoa::Buffer;
 use std::alloc::{AllocError, AllocFailed, Global};
 use std::marker::Model;
@@ -131,51 +133,32 @@ enum Form {
     Number(i64),
     List(Rc<Items>),
     Dict(Rc<Entries>),
-}
-
-/// What a value's text was last read as.
-enum Kept {
-    Nothing,
-    Tcl8(i64),
-    Tcl9(i64),
-    List(List),
-    Dict(Dict),
-}
-
-impl Drop for Kept {
-    fn drop(self) {
-        match self {
-            Kept::Nothing => {}
-            Kept::Tcl8(_n) => {}
-            Kept::Tcl9(_n) => {}
-            Kept::List(_list) => {}
-            Kept::Dict(_dict) => {}
-        }
-    }
+    /// A text with what it was last read as.
+    Read(Rc<ReadText>),
 }
 
 /// A value of the language, which contracts see as its text: the list of its bytes in UTF-8, of
 /// which there are at most [`MOST_BYTES`].
 ///
-/// A number, a list or a dict that was built carries no text until one is asked for, and a text
-/// keeps what it was last read as. A clone shares what is kept. What isn't shared is changed in
-/// place.
+/// A number, a list or a dict that was built carries no text until one is asked for. A text that
+/// was read as a list or as a dict keeps it, and one that was read as an integer is kept as that
+/// number where it is just what the number writes. A clone shares what is kept. What isn't shared
+/// is changed in place.
 pub struct Value {
     form: Form,
-    kept: Kept,
 }
 
 impl Drop for Value {
     #[inline]
     fn drop(self) {
-        let Value { form, kept } = self;
-        drop(kept);
+        let Value { form } = self;
         match form {
             Form::Empty => {}
             Form::Number(_n) => {}
             Form::Text(text) => let_go(text),
-            Form::List(_items) => {}
-            Form::Dict(_entries) => {}
+            Form::List(items) => let_list_go(items),
+            Form::Dict(entries) => let_dict_go(entries),
+            Form::Read(read) => let_read_go(read),
         }
     }
 }
@@ -186,16 +169,34 @@ fn let_go(text: Text) {
     let _text = text;
 }
 
+/// The same of the elements of a list.
+#[inline(never)]
+fn let_list_go(items: Rc<Items>) {
+    let _items = items;
+}
+
+/// The same of the entries of a dict.
+#[inline(never)]
+fn let_dict_go(entries: Rc<Entries>) {
+    let _entries = entries;
+}
+
+/// The same of a text with what it was last read as.
+#[inline(never)]
+fn let_read_go(read: Rc<ReadText>) {
+    let _read = read;
+}
+
 impl Model for Value {
     ghost use Rattle.std.specs.Prelude.{List, ℕ};
 
     ghost Value = { List ℕ };
 
-    ghost use Rattle.tcl_value.specs.Forms.{form_text, IsValue};
+    ghost use Rattle.tcl_value.specs.Forms.{form_text, IsForm};
 
     ghost view = { λ a. form_text a.form };
 
-    ghost invariant = { λ a. IsValue a.form a.kept };
+    ghost invariant = { λ a. IsForm a.form };
 }
 
 impl Value {
@@ -203,10 +204,7 @@ impl Value {
     pub fn empty() -> Value
         ensures { result ≡ [] }
     {
-        Value {
-            form: Form::Empty,
-            kept: Kept::Nothing,
-        }
+        Value { form: Form::Empty }
     }
 
     /// The value of a text. This takes no memory.
@@ -230,7 +228,6 @@ impl Value {
     {
         Value {
             form: Form::Text(text),
-            kept: Kept::Nothing,
         }
     }
 
@@ -240,7 +237,6 @@ impl Value {
     {
         Value {
             form: Form::Number(n),
-            kept: Kept::Nothing,
         }
     }
 
@@ -259,10 +255,7 @@ impl Value {
             Element::List(items) => Form::List(items.clone()?),
             Element::Dict(entries) => Form::Dict(entries.clone()?),
         };
-        Ok(Value {
-            form,
-            kept: Kept::Nothing,
-        })
+        Ok(Value { form })
     }
 
     /// Its text, which is written if there is none yet.
@@ -275,6 +268,7 @@ impl Value {
         match &self.form {
             Form::Empty => Text::new(alloc, ""),
             Form::Text(text) => text.clone(),
+            Form::Read(read) => read.text().clone(),
             Form::Number(n) => Text::from_string(alloc, write_int(alloc, *n)?),
             Form::List(items) => Text::from_string(alloc, items.write(alloc)?),
             Form::Dict(entries) => Text::from_string(alloc, entries.write(alloc)?),
@@ -287,6 +281,7 @@ impl Value {
     {
         match &self.form {
             Form::Text(text) => Some(text),
+            Form::Read(read) => Some(read.text()),
             Form::Empty | Form::Number(_) | Form::List(_) | Form::Dict(_) => None,
         }
     }
@@ -306,6 +301,7 @@ impl Value {
         match &self.form {
             Form::Empty => 0,
             Form::Text(text) => text.len(),
+            Form::Read(read) => read.text().len(),
             Form::Number(n) => int_len(*n),
             Form::List(items) => items.written_len(),
             Form::Dict(entries) => entries.written_len(),
@@ -320,6 +316,7 @@ impl Value {
         match &self.form {
             Form::Empty => Ok(()),
             Form::Text(text) => out.push_str(text.as_str()),
+            Form::Read(read) => out.push_str(read.text().as_str()),
             Form::Number(n) => push_int(out, *n),
             Form::List(items) => items.write_to(out),
             Form::Dict(entries) => entries.write_to(out),
@@ -349,6 +346,7 @@ impl Value {
         match &self.form {
             Form::Empty => text.is_empty(),
             Form::Text(own) => own.as_str().as_bytes() == text,
+            Form::Read(read) => read.text().as_str().as_bytes() == text,
             Form::Number(n) => is_int(text, *n),
             Form::List(items) => items.is_text(text),
             Form::Dict(entries) => entries.is_text(text),
@@ -362,6 +360,18 @@ impl Value {
     {
         match &self.form {
             Form::Text(own) => own == text,
+            _ => self.is_other_text(text),
+        }
+    }
+
+    /// The same of one that isn't kept as a text alone. It isn't inlined, so that a comparison of
+    /// texts costs little.
+    #[inline(never)]
+    fn is_other_text(&self, text: &Text) -> bool
+        ensures { IsTrue result ↔ (self.now ≡ text.now) }
+    {
+        match &self.form {
+            Form::Read(read) => read.text() == text,
             _ => self.is_text(text.as_str().as_bytes()),
         }
     }
@@ -378,6 +388,8 @@ impl Value {
             (_, Form::Empty) => self.is_text(b""),
             (Form::Text(text), _) => other.is_shared_text(text),
             (_, Form::Text(text)) => self.is_shared_text(text),
+            (Form::Read(read), _) => other.is_shared_text(read.text()),
+            (_, Form::Read(read)) => self.is_shared_text(read.text()),
             (Form::Number(n), _) => other.is_number(*n),
             (_, Form::Number(n)) => self.is_number(*n),
             (Form::List(own), Form::List(items)) => own.same(items),
@@ -404,7 +416,7 @@ impl Value {
     {
         match &self.form {
             Form::Number(n) => Some(*n),
-            Form::Empty | Form::Text(_) | Form::List(_) | Form::Dict(_) => None,
+            Form::Empty | Form::Text(_) | Form::List(_) | Form::Dict(_) | Form::Read(_) => None,
         }
     }
 
@@ -419,15 +431,25 @@ impl Value {
     {
         match &self.form {
             Form::Number(n) => number_of(*n, style),
-            Form::Text(text) => match self.kept.int(style) {
-                Some(n) => Ok(n),
-                None => read_int(text.as_str(), style),
-            },
+            _ => self.int_of_text(style),
+        }
+    }
+
+    /// The same of one that isn't kept as a number. It isn't inlined, so that the number of one
+    /// that is costs little.
+    #[inline(never)]
+    fn int_of_text(&self, style: Integers) -> Result<i64, IntegerFault>
+        ensures { result ≡ int_of style self.now }
+    {
+        match &self.form {
+            Form::Number(n) => number_of(*n, style),
+            Form::Text(text) => read_int(text.as_str(), style),
+            Form::Read(read) => read_int(read.text().as_str(), style),
             Form::Empty | Form::List(_) | Form::Dict(_) => Err(IntegerFault::NotInteger),
         }
     }
 
-    /// The same, which is kept.
+    /// The same. A text that is just what the number writes is kept as the number from then on.
     ///
     /// # Errors
     /// Those of [`Value::int`].
@@ -436,9 +458,21 @@ impl Value {
         ensures read { result ≡ int_of style self.old }
         ensures text { self.new ≡ self.old }
     {
-        let n = self.int(style)?;
-        if let Form::Text(_) = &self.form {
-            self.kept = Kept::of_int(n, style);
+        match &self.form {
+            Form::Number(n) => number_of(*n, style),
+            _ => self.read_as_int(style),
+        }
+    }
+
+    /// The same of one that isn't kept as a number, which isn't inlined either.
+    #[inline(never)]
+    fn read_as_int(&mut self, style: Integers) -> Result<i64, IntegerFault>
+        ensures read { result ≡ int_of style self.old }
+        ensures text { self.new ≡ self.old }
+    {
+        let n = self.int_of_text(style)?;
+        if self.is_number(n) {
+            *self = Value::from_int(n);
         }
         Ok(n)
     }
@@ -450,9 +484,12 @@ impl Value {
     fn list_at_hand(&self) -> Result<Option<List>, AllocError>
         ensures { IfOk result (λ found. IfSome found (λ list. list_of self.now ≡ Ok list)) }
     {
-        match (&self.form, &self.kept) {
-            (Form::List(items), _) => Ok(Some(List::from_items(items.clone()?))),
-            (_, Kept::List(list)) => Ok(Some(list.clone()?)),
+        match &self.form {
+            Form::List(items) => Ok(Some(List::from_items(items.clone()?))),
+            Form::Read(read) => match read.list() {
+                Some(list) => Ok(Some(list.clone()?)),
+                None => Ok(None),
+            },
             _ => Ok(None),
         }
     }
@@ -467,12 +504,12 @@ impl Value {
         ensures text { IfOk result (λ found. IfSome found (λ list. self.now ≡ write list)) }
         ensures plain { IfOk result (λ found. IfSome found ArePlain) }
     {
-        match (&self.form, &self.kept) {
-            (Form::Empty, _) => Ok(Some(List::new(alloc)?)),
-            (Form::Number(n), _) => Ok(Some(List::of_number(alloc, *n)?)),
-            (Form::List(items), _) => plain_items(items),
-            (Form::Text(text), _) if text.is_empty() => Ok(Some(List::new(alloc)?)),
-            (Form::Text(text), Kept::List(list)) => plain_reading(text, list),
+        match &self.form {
+            Form::Empty => Ok(Some(List::new(alloc)?)),
+            Form::Number(n) => Ok(Some(List::of_number(alloc, *n)?)),
+            Form::List(items) => plain_items(items),
+            Form::Text(text) if text.is_empty() => Ok(Some(List::new(alloc)?)),
+            Form::Read(read) => plain_reading(read),
             _ => Ok(None),
         }
     }
@@ -484,13 +521,14 @@ impl Value {
         match &self.form {
             Form::Empty => Ok(List::new(alloc)?),
             Form::Text(text) => List::read(alloc, text.as_str()),
+            Form::Read(read) => List::read(alloc, read.text().as_str()),
             Form::Number(n) => Ok(List::of_number(alloc, *n)?),
             Form::List(items) => Ok(List::from_items(items.clone()?)),
             Form::Dict(entries) => Ok(List::of_entries(alloc, entries)?),
         }
     }
 
-    /// The list that its text spells, which is kept.
+    /// The list that its text spells, which is kept where it is kept as a text.
     ///
     /// # Errors
     /// [`ListError::Fault`] exactly where the text spells no list (101 to 104); want of memory.
@@ -502,8 +540,42 @@ impl Value {
             return Ok(list);
         }
         let list = self.read_list(alloc)?;
-        self.kept = Kept::List(list.clone()?);
+        self.keep_list(alloc, &list)?;
         Ok(list)
+    }
+
+    /// The list that its text spells: what is at hand, or what is read anew. It isn't kept.
+    fn to_list(&self, alloc: Global) -> Result<List, ListError>
+        ensures { Gives (λ list. list) result (list_of self.now) }
+    {
+        match self.list_at_hand()? {
+            Some(list) => Ok(list),
+            None => self.read_list(alloc),
+        }
+    }
+
+    /// Keeps the list that its text reads as, where it is kept as a text.
+    fn keep_list(&mut self, alloc: Global, list: &List) -> Result<(), AllocError>
+        requires { list_of self.old ≡ Ok list.now }
+        ensures { self.new ≡ self.old }
+    {
+        self.keeps_limit();
+        if let Some(text) = self.as_text() {
+            let read = ReadText::of_list(text.clone()?, list.clone()?);
+            self.form = Form::Read(Rc::new(alloc, read)?);
+        }
+        Ok(())
+    }
+
+    /// Lets go what its text was last read as, so that its text isn't shared by that.
+    fn forget_reading(&mut self) -> Result<(), AllocError>
+        ensures { self.new ≡ self.old }
+    {
+        if let Form::Read(read) = &self.form {
+            let text = read.text().clone()?;
+            self.form = Form::Text(text);
+        }
+        Ok(())
     }
 
     /// The value of a list.
@@ -518,14 +590,28 @@ impl Value {
         if !list.is_within() {
             return Err(ValueError::TooLong);
         }
-        let form = match list.len() {
-            0 => Form::Empty,
-            1 => Form::Text(Text::from_string(alloc, list.write(alloc)?)?),
-            _ => Form::List(list.to_items()?),
-        };
+        match list.len() {
+            0 => Ok(Value::empty()),
+            1 => Ok(Value::from_one(alloc, list)?),
+            _ => Ok(Value {
+                form: Form::List(list.into_items()),
+            }),
+        }
+    }
+
+    /// The value of a list of one element: a number where the element is kept as one, and otherwise
+    /// the text that is written, with the list.
+    fn from_one(alloc: Global, list: List) -> Result<Value, AllocError>
+        requires { IsWithin (write list) }
+        ensures { IfOk result (λ value. value ≡ write list) }
+    {
+        if let Some(n) = list.items().lone_number() {
+            return Ok(Value::from_int(n));
+        }
+        let text = Text::from_string(alloc, list.write(alloc)?)?;
+        let read = ReadText::of_list(text, list);
         Ok(Value {
-            form,
-            kept: Kept::List(list),
+            form: Form::Read(Rc::new(alloc, read)?),
         })
     }
 
@@ -534,10 +620,11 @@ impl Value {
         ensures text { IfOk result (λ element. element_text element ≡ self) }
         ensures element { IfOk result IsElement }
     {
-        let Value { form, kept: _ } = self;
+        let Value { form } = self;
         match form {
             Form::Empty => Ok(Element::Text(Text::new(alloc, "")?)),
             Form::Text(text) => Ok(Element::Text(text)),
+            Form::Read(read) => Ok(Element::Text(read.text().clone()?)),
             Form::Number(n) => Ok(Element::Number(n)),
             Form::List(items) => inner_list(alloc, items),
             Form::Dict(entries) => inner_dict(alloc, entries),
@@ -549,18 +636,52 @@ impl Value {
     fn dict_at_hand(&self) -> Result<Option<Dict>, AllocError>
         ensures { IfOk result (λ found. IfSome found (λ dict. dict_of self.now ≡ Ok dict)) }
     {
-        match (&self.form, &self.kept) {
-            (Form::Dict(entries), _) => {
+        match &self.form {
+            Form::Dict(entries) => {
                 entries.reads_back();
                 Ok(Some(Dict::from_entries(entries.clone()?)))
             }
-            (_, Kept::Dict(dict)) => Ok(Some(dict.clone()?)),
+            Form::Read(read) => match read.dict() {
+                Some(dict) => Ok(Some(dict.clone()?)),
+                None => Ok(None),
+            },
             _ => Ok(None),
         }
     }
 
-    /// The dict that its text spells, which is kept: a list of keys and values in turn, where a
-    /// repeated key keeps its first place and its last value.
+    /// The dict that its text reads as, made of the list that it spells.
+    fn read_dict(&self, alloc: Global) -> Result<Dict, DictError>
+        ensures { GivesDict result (dict_of self.now) }
+    {
+        let list = self.to_list(alloc)?;
+        Dict::from_list(alloc, &list)
+    }
+
+    /// The dict that its text spells: what is at hand, or what is read anew. It isn't kept.
+    fn to_dict(&self, alloc: Global) -> Result<Dict, DictError>
+        ensures { GivesDict result (dict_of self.now) }
+    {
+        match self.dict_at_hand()? {
+            Some(dict) => Ok(dict),
+            None => self.read_dict(alloc),
+        }
+    }
+
+    /// Keeps the dict that its text reads as, where it is kept as a text.
+    fn keep_dict(&mut self, alloc: Global, dict: &Dict) -> Result<(), AllocError>
+        requires { dict_of self.old ≡ Ok dict.now }
+        ensures { self.new ≡ self.old }
+    {
+        self.keeps_limit();
+        if let Some(text) = self.as_text() {
+            let read = ReadText::of_dict(text.clone()?, dict.clone()?);
+            self.form = Form::Read(Rc::new(alloc, read)?);
+        }
+        Ok(())
+    }
+
+    /// The dict that its text spells, which is kept where it is kept as a text: a list of keys and
+    /// values in turn, where a repeated key keeps its first place and its last value.
     ///
     /// # Errors
     /// [`DictError::Fault`] exactly where the text spells no list (101 to 104), or one with an odd
@@ -572,9 +693,8 @@ impl Value {
         if let Some(dict) = self.dict_at_hand()? {
             return Ok(dict);
         }
-        let list = self.as_list(alloc)?;
-        let dict = Dict::from_list(alloc, &list)?;
-        self.kept = Kept::Dict(dict.clone()?);
+        let dict = self.read_dict(alloc)?;
+        self.keep_dict(alloc, &dict)?;
         Ok(dict)
     }
 
@@ -593,7 +713,6 @@ impl Value {
         }
         Ok(Value {
             form: Form::Dict(dict.into_entries()),
-            kept: Kept::Nothing,
         })
     }
 
@@ -604,8 +723,7 @@ impl Value {
         ensures { IfOk result (λ value. value ≡ self.now) }
     {
         let form = self.form.clone()?;
-        let kept = self.kept.clone()?;
-        Ok(Value { form, kept })
+        Ok(Value { form })
     }
 
     /// Its text as a key.
@@ -617,14 +735,14 @@ impl Value {
         self.text(alloc)
     }
 
-    /// The place that its text keeps (see [`Text::hint`]), where it is kept as a text: where its
-    /// reading as a script or as an expression, or the variable or the command that it names, was
-    /// found last. It says nothing of the text, and may be any: whoever takes it looks at what
+    /// The place that its text keeps (see [`Text::hint`]), where it is kept as a text alone: where
+    /// its reading as a script or as an expression, or the variable or the command that it names,
+    /// was found last. It says nothing of the text, and may be any: whoever takes it looks at what
     /// stands there.
     pub fn place(&self) -> Option<usize> {
         match &self.form {
             Form::Text(text) => Some(text.hint()),
-            Form::Empty | Form::Number(_) | Form::List(_) | Form::Dict(_) => None,
+            _ => None,
         }
     }
 
@@ -649,11 +767,15 @@ fn plain_items(items: &Rc<Items>) -> Result<Option<List>, AllocError>
 
 /// The list that a text was read as, where its elements are known to be plain and the text is just
 /// what it writes.
-fn plain_reading(text: &Text, list: &List) -> Result<Option<List>, AllocError>
-    ensures text { IfOk result (λ found. IfSome found (λ list. text.now ≡ write list)) }
+fn plain_reading(read: &ReadText) -> Result<Option<List>, AllocError>
+    ensures text { IfOk result (λ found. IfSome found (λ list. read.now ≡ write list)) }
     ensures plain { IfOk result (λ found. IfSome found ArePlain) }
 {
-    if !list.items().is_plain() || !list.items().is_text(text.as_str().as_bytes()) {
+    let Some(list) = read.list() else {
+        return Ok(None);
+    };
+    let text = read.text().as_str().as_bytes();
+    if !list.items().is_plain() || !list.items().is_text(text) {
         return Ok(None);
     }
     Ok(Some(list.clone()?))
@@ -692,31 +814,6 @@ fn number_of(n: i64, style: Integers) -> Result<i64, IntegerFault>
     Ok(n)
 }
 
-impl Kept {
-    ghost use Rattle.tcl_value.specs.Forms.{IsKept};
-
-    /// An integer that was read in a style.
-    fn of_int(n: i64, style: Integers) -> Kept
-        ensures { (text : Bytes) → int_of style text ≡ Ok n → IsKept text result }
-    {
-        match style {
-            Integers::Tcl8 => Kept::Tcl8(n),
-            Integers::Tcl9 => Kept::Tcl9(n),
-        }
-    }
-
-    /// The integer that is kept, if it was read in this style.
-    fn int(&self, style: Integers) -> Option<i64>
-        ensures { (text : Bytes) → IsKept text self.now → IfSome result
-            (λ n. int_of style text ≡ Ok n) }
-    {
-        match (self, style) {
-            (Kept::Tcl8(n), Integers::Tcl8) | (Kept::Tcl9(n), Integers::Tcl9) => Some(*n),
-            _ => None,
-        }
-    }
-}
-
 impl Clone for Form {
     ghost use Rattle.tcl_value.specs.Forms.{IsSameForm};
 
@@ -729,22 +826,7 @@ impl Clone for Form {
             Form::Number(n) => Ok(Form::Number(*n)),
             Form::List(items) => Ok(Form::List(items.clone()?)),
             Form::Dict(entries) => Ok(Form::Dict(entries.clone()?)),
-        }
-    }
-}
-
-impl Clone for Kept {
-    ghost use Rattle.tcl_value.specs.Forms.{IsSameKept};
-
-    ghost is_clone = { IsSameKept };
-
-    fn clone(&self) -> Result<Kept, AllocError> {
-        match self {
-            Kept::Nothing => Ok(Kept::Nothing),
-            Kept::Tcl8(n) => Ok(Kept::Tcl8(*n)),
-            Kept::Tcl9(n) => Ok(Kept::Tcl9(*n)),
-            Kept::List(list) => Ok(Kept::List(list.clone()?)),
-            Kept::Dict(dict) => Ok(Kept::Dict(dict.clone()?)),
+            Form::Read(read) => Ok(Form::Read(read.clone()?)),
         }
     }
 }
@@ -764,17 +846,11 @@ impl Clone for Value {
 
     #[inline]
     fn clone(&self) -> Result<Value, AllocError> {
-        let Kept::Nothing = &self.kept else {
-            return self.share();
-        };
         let form = match &self.form {
             Form::Number(n) => Form::Number(*n),
             Form::Text(text) => Form::Text(text.clone()?),
             _ => return self.share(),
         };
-        Ok(Value {
-            form,
-            kept: Kept::Nothing,
-        })
+        Ok(Value { form })
     }
 }

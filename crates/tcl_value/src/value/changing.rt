@@ -20,7 +20,7 @@ use crate::dict_fault::EntryError;
 use crate::element::{Change, Element, MOST_DEPTH, change_shared, has_backslash_end, put_inner};
 use crate::list::List;
 use crate::value::shared::{extend_shared, push_shared, put_shared, remove_shared, set_shared};
-use crate::value::{ChangeError, Form, Kept, Value, ValueError};
+use crate::value::{ChangeError, Form, Value, ValueError};
 use std::alloc::{AllocError, Global};
 use tcl_text::limit::MOST_BYTES;
 use tcl_text::text::Text;
@@ -31,16 +31,14 @@ impl Value {
     pub fn set_int(&mut self, n: i64)
         ensures { self.new ≡ signed_decimal n }
     {
-        if let Kept::Nothing = &self.kept {
-            if let Form::Number(own) = &mut self.form {
-                *own = n;
-                return;
-            }
+        if let Form::Number(own) = &mut self.form {
+            *own = n;
+            return;
         }
         self.become_int(n);
     }
 
-    /// The same of one that isn't kept as a number alone. It isn't inlined, so that a change of a
+    /// The same of one that isn't kept as a number. It isn't inlined, so that a change of a
     /// number costs little.
     #[inline(never)]
     fn become_int(&mut self, n: i64)
@@ -63,8 +61,8 @@ impl Value {
         if more.len() > MOST_BYTES - self.text_len() {
             return Err(ValueError::TooLong);
         }
+        self.forget_reading()?;
         if let Form::Text(text) = &mut self.form {
-            self.kept = Kept::Nothing;
             text.append(more)?;
             return Ok(());
         }
@@ -92,11 +90,10 @@ impl Value {
     {
         let element = value.into_element(alloc)?;
         if let Form::List(items) = &mut self.form {
-            self.kept = Kept::Nothing;
             return push_shared(items, element);
         }
-        let mut list = self.as_list(alloc)?;
-        self.kept = Kept::Nothing;
+        let mut list = self.to_list(alloc)?;
+        self.forget_reading()?;
         list.push_element(element)?;
         *self = Value::from_list(alloc, list)?;
         Ok(())
@@ -120,11 +117,10 @@ impl Value {
     {
         let elements = elements_of(alloc, values)?;
         if let Form::List(items) = &mut self.form {
-            self.kept = Kept::Nothing;
             return extend_shared(items, elements);
         }
-        let mut list = self.as_list(alloc)?;
-        self.kept = Kept::Nothing;
+        let mut list = self.to_list(alloc)?;
+        self.forget_reading()?;
         list.extend_elements(elements)?;
         *self = Value::from_list(alloc, list)?;
         Ok(())
@@ -149,11 +145,10 @@ impl Value {
     {
         let element = value.into_element(alloc)?;
         if let Form::List(items) = &mut self.form {
-            self.kept = Kept::Nothing;
             return set_shared(items, index, element);
         }
-        let mut list = self.as_list(alloc)?;
-        self.kept = Kept::Nothing;
+        let mut list = self.to_list(alloc)?;
+        self.forget_reading()?;
         list.set_element(index, element)?;
         *self = Value::from_list(alloc, list)?;
         Ok(())
@@ -179,11 +174,10 @@ impl Value {
         let element = value.into_element(alloc)?;
         if let Form::Dict(entries) = &mut self.form {
             entries.reads_back();
-            self.kept = Kept::Nothing;
             return put_shared(entries, key, element);
         }
-        let mut dict = self.as_dict(alloc)?;
-        self.kept = Kept::Nothing;
+        let mut dict = self.to_dict(alloc)?;
+        self.forget_reading()?;
         dict.set_element(key, element)?;
         *self = Value::from_dict(dict)?;
         Ok(())
@@ -207,11 +201,10 @@ impl Value {
     {
         if let Form::Dict(entries) = &mut self.form {
             entries.reads_back();
-            self.kept = Kept::Nothing;
             return remove_shared(entries, key);
         }
-        let mut dict = self.as_dict(alloc)?;
-        self.kept = Kept::Nothing;
+        let mut dict = self.to_dict(alloc)?;
+        self.forget_reading()?;
         dict.remove(key)?;
         *self = Value::from_dict(dict)?;
         Ok(())
@@ -227,7 +220,6 @@ impl Value {
     {
         let room = MOST_BYTES - self.text_len();
         if let Form::List(items) = &mut self.form {
-            self.kept = Kept::Nothing;
             return put_inner(items, path, element, room);
         }
         false
@@ -242,7 +234,6 @@ impl Value {
     {
         let room = MOST_BYTES - self.text_len();
         if let Form::Dict(entries) = &mut self.form {
-            self.kept = Kept::Nothing;
             return change_shared(entries, alloc, path, change, room);
         }
         false

@@ -1,5 +1,4 @@
-use Rattle.std.proofs.Common.{arith, ◌≡◌, ◌∙◌, ◌+◌, ◌<◌, ◌^◌, ◌++◌, ap, sym, subst, refl, take, drop}
-use Rattle.tcl_value.specs.Writing.{write}
+use Rattle.std.proofs.Common.{arith, ◌≡◌, ◌∙◌, ◌<◌, ◌^◌, ◌++◌, ap, sym, subst, refl, take, drop}
 use Rattle.tcl_value.specs.Texts.{AreElements, texts, weight}
 use Rattle.tcl_value.proofs.Weights.{length-texts, length-write}
 use Rattle.tcl_value.proofs.Extended.{extended_weight}

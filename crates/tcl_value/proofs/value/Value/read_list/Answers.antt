@@ -13,7 +13,7 @@ returns-in_ok-new-in-Empty c =
 
 pub returns-in_ok-of_number-in-Number : goal.returns-in_ok-of_number-in-Number
 returns-in_ok-of_number-in-Number c =
-    let fits : FitsSigned w64 c.in-Number.n = subst IsForm c.in-Number.is c.self.invariant.form in
+    let fits : FitsSigned w64 c.in-Number.n = subst IsForm c.in-Number.is c.self.invariant in
     ap list_of (sym c.self.view_is ∙ ap form_text c.in-Number.is)
     ∙ list_of-number c.in-Number.n fits
     ∙ ap (λ z. Ok (signed_decimal z ∷ [])) (sym (to_z-of_z w64 c.in-Number.n fits))
@@ -29,4 +29,4 @@ pub returns-in_ok-of_entries-in-Dict : goal.returns-in_ok-of_entries-in-Dict
 returns-in_ok-of_entries-in-Dict c =
     ap list_of (sym c.self.view_is ∙ ap form_text c.in-Dict.is)
     ∙ list_of-write _
-    ∙ ap (λ es. Ok (flat es)) (sym c.deref.ensures) ∙ ap (λ l. Ok l) (sym c.in_ok-of_entries-in-Dict.ensures)
+    ∙ ap (λ es. Ok (flat es)) (sym c.deref-in-Dict.ensures) ∙ ap (λ l. Ok l) (sym c.in_ok-of_entries-in-Dict.ensures)

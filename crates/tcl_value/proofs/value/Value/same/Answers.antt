@@ -7,10 +7,10 @@ use Rattle.tcl_value.proofs.value.Value.same.Goals as goal
 
 pub returns-in-List-List : goal.returns-in-List-List
 returns-in-List-List c =
-    let a = c.deref.result.now in
-    let b = c.deref-in-List-List.result.now in
+    let a = c.deref-in-List-List.result.now in
+    let b = c.deref-in-List-List-2.result.now in
     between (write a) (write b) c.args.self.now c.args.other.now (write_same a b c.same.ensures)
-    (sym c.self.view_is ∙ ap form_text c.in-List-List.is-0 ∙ ap write (sym c.deref.ensures)) (sym c.other.view_is ∙ ap form_text c.in-List-List.is-1 ∙ ap write (sym c.deref-in-List-List.ensures))
+    (sym c.self.view_is ∙ ap form_text c.in-List-List.is-0 ∙ ap write (sym c.deref-in-List-List.ensures)) (sym c.other.view_is ∙ ap form_text c.in-List-List.is-1 ∙ ap write (sym c.deref-in-List-List-2.ensures))
 
 pub returns-in-List-Dict : goal.returns-in-List-Dict
 returns-in-List-Dict c =
