@@ -67,7 +67,7 @@ number_short z f = let n = digits_at_most z f in omega arith
 small : (n : ℕ) → n ≤ 16777216 → FitsSigned w64 (pos n)
 small n h = omega (arith, ints)
 
-counted_fits : (n : ℕ) → Fits (counted n)
+pub counted_fits : (n : ℕ) → Fits (counted n)
 counted_fits n = by (nat_le n 16777216) refl
   where
     by : (b : Bool) → nat_le n 16777216 ≡ b → Fits (cond b (Ok (signed_decimal (pos n))) (Err too_long))

@@ -4,18 +4,23 @@ ghost use Rattle.tcl_format.specs.Filling.{format_of};
 ghost use Rattle.tcl_language.specs.Data.{answered};
 ghost use Rattle.tcl_run.specs.Plain.{Acts};
 ghost use Rattle.tcl_run.specs.Runs.{IsLevel};
+ghost use Rattle.tcl_strings.specs.Parts.{index_of, length_of, range_of};
 ghost use Rattle.tcl_strings.specs.Subcommands.{string_of};
 ghost use Rattle.tcl_words.specs.Outcomes.{Gives};
 
 use crate::answers::{answer_value, answered, texts_of};
 use std::alloc::Global;
+use tcl_characters::parts::character_count;
 use tcl_format::command;
+use tcl_lists::reading::index_word;
 use tcl_run::interruption::Interruption;
 use tcl_strings::ensemble;
+use tcl_strings::spans::counted_span;
 use tcl_text::integer::Integers;
 use tcl_text::text::Text;
 use tcl_tree::tree::{Place, Tree};
 use tcl_value::value::Value;
+use tcl_words::limits::{count_answer, text_answer};
 use tcl_words::refusal::Refusal;
 
 /// What `string` gives of these texts.
@@ -26,7 +31,48 @@ fn string_answer(alloc: Global, style: Integers, texts: &[Text]) -> Result<Value
     Ok(answer_value(answer))
 }
 
-/// The same of two words, for whose texts no list is made.
+/// The characters of a text from one index to another, which are words that are read as indexes,
+/// the first one first. No text is made of a number.
+fn characters_between(
+    alloc: Global,
+    style: Integers,
+    text: &Value,
+    first: &Value,
+    last: &Value,
+) -> Result<Value, Refusal>
+    ensures { Gives (λ value. value) result
+        (range_of style (text.now ∷ first.now ∷ last.now ∷ [])) }
+{
+    let text = text.text(alloc)?;
+    let count = character_count(text.as_str());
+    let first = index_word(alloc, style, count, first)?;
+    let last = index_word(alloc, style, count, last)?;
+    let answer = text_answer(alloc, counted_span(text.as_str(), count, first, last))?;
+    Ok(answer_value(answer))
+}
+
+/// The character of a text at an index, which is a word that is read as one. No text is made of a
+/// number.
+fn character_at(alloc: Global, style: Integers, text: &Value, at: &Value) -> Result<Value, Refusal>
+    ensures { Gives (λ value. value) result (index_of style (text.now ∷ at.now ∷ [])) }
+{
+    let text = text.text(alloc)?;
+    let count = character_count(text.as_str());
+    let at = index_word(alloc, style, count, at)?;
+    let answer = text_answer(alloc, counted_span(text.as_str(), count, at, at))?;
+    Ok(answer_value(answer))
+}
+
+/// How many characters a text has.
+fn characters_in(alloc: Global, text: &Value) -> Result<Value, Refusal>
+    ensures { Gives (λ value. value) result (length_of (text.now ∷ [])) }
+{
+    let text = text.text(alloc)?;
+    let answer = count_answer(alloc, character_count(text.as_str()))?;
+    Ok(answer_value(answer))
+}
+
+/// What `string` gives of two words, for whose texts no list is made.
 fn answer_of_two(
     alloc: Global,
     style: Integers,
@@ -35,6 +81,9 @@ fn answer_of_two(
 ) -> Result<Value, Refusal>
     ensures { Gives (λ value. value) result (string_of style (first.now ∷ second.now ∷ [])) }
 {
+    if first.is_text(b"length") {
+        return characters_in(alloc, second);
+    }
     let first = first.text(alloc)?;
     let second = second.text(alloc)?;
     string_answer(alloc, style, &[first, second])
@@ -51,10 +100,35 @@ fn answer_of_three(
     ensures { Gives (λ value. value) result
         (string_of style (first.now ∷ second.now ∷ third.now ∷ [])) }
 {
+    if first.is_text(b"index") {
+        return character_at(alloc, style, second, third);
+    }
     let first = first.text(alloc)?;
     let second = second.text(alloc)?;
     let third = third.text(alloc)?;
     string_answer(alloc, style, &[first, second, third])
+}
+
+/// The same of four.
+fn answer_of_four(
+    alloc: Global,
+    style: Integers,
+    first: &Value,
+    second: &Value,
+    third: &Value,
+    fourth: &Value,
+) -> Result<Value, Refusal>
+    ensures { Gives (λ value. value) result
+        (string_of style (first.now ∷ second.now ∷ third.now ∷ fourth.now ∷ [])) }
+{
+    if first.is_text(b"range") {
+        return characters_between(alloc, style, second, third, fourth);
+    }
+    let first = first.text(alloc)?;
+    let second = second.text(alloc)?;
+    let third = third.text(alloc)?;
+    let fourth = fourth.text(alloc)?;
+    string_answer(alloc, style, &[first, second, third, fourth])
 }
 
 /// What `string` gives.
@@ -67,6 +141,9 @@ pub fn string_value(alloc: Global, style: Integers, args: &[Value]) -> Result<Va
     match args {
         [first, second] => answer_of_two(alloc, style, first, second),
         [first, second, third] => answer_of_three(alloc, style, first, second, third),
+        [first, second, third, fourth] => {
+            answer_of_four(alloc, style, first, second, third, fourth)
+        }
         _ => {
             let texts = texts_of(alloc, args)?;
             string_answer(alloc, style, texts.as_slice())

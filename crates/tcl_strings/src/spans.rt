@@ -140,7 +140,7 @@ fn bytes_between(text: &str, first: Index, last: Index) -> &str
 
 /// The characters from one place to another, of a text of so many. Where each takes one byte, they
 /// are cut out by bytes, and the text isn't walked over.
-pub(crate) fn counted_span(text: &str, count: usize, first: Index, last: Index) -> &str
+pub fn counted_span(text: &str, count: usize, first: Index, last: Index) -> &str
     requires { count ≡ length (chars text.now) }
     ensures { result.now ≡ text_of (span first last (chars text.now)) }
 {
