@@ -23,3 +23,4 @@ pub mod SubcommandNames
 pub mod Statuses
 pub mod DictCalls
 pub mod SetParts
+pub mod Entering

@@ -17,3 +17,4 @@ pub mod Kinds
 pub mod Named
 pub mod Subcommands
 pub mod Setting
+pub mod Entries

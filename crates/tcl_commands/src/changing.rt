@@ -147,7 +147,7 @@ fn change_in(
 
 /// Changes a variable of the interpreter that the place names.
 #[inline(always)]
-fn change_variable(
+pub(crate) fn change_variable(
     tree: &mut Tree,
     alloc: Global,
     place: Place,

@@ -214,7 +214,7 @@ pub(crate) fn grow_variable(
 }
 
 /// Adds a number, or 1, to the integer of a variable, in a style of integer texts.
-#[inline]
+#[inline(always)]
 fn raise_near(
     frames: &mut Frames,
     alloc: Global,
@@ -233,7 +233,7 @@ fn raise_near(
 
 /// Adds a number, or 1, to the integer of a variable of the interpreter that the place names, in a
 /// style of integer texts.
-#[inline]
+#[inline(always)]
 pub(crate) fn raise_variable(
     tree: &mut Tree,
     alloc: Global,

@@ -11,6 +11,7 @@ mod cutting;
 pub mod definitions;
 pub mod dicts;
 pub mod ends;
+pub mod entries;
 pub mod exits;
 pub mod growing;
 pub mod inspection;

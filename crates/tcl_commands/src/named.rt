@@ -1,5 +1,5 @@
 //! Commands that change the variable that their first word names, where that name was read before.
-ghost use Rattle.std.specs.Prelude.{◌≡◌, ◌∷◌, ◌<◌, [], length, IfSome};
+ghost use Rattle.std.specs.Prelude.{◌≡◌, ◌∷◌, ◌<◌, [], length, IfOk, IfErr};
 ghost use Rattle.tcl_core.specs.Paths.{Path};
 ghost use Rattle.tcl_language.specs.Data as collections;
 ghost use Rattle.tcl_language.specs.Table.{builtin as program_of};
@@ -53,17 +53,19 @@ impl VariableChange {
     }
 
     /// The change that a built-in command makes with one word behind the variable's name, if it is
-    /// one of these.
-    pub fn of_word(builtin: Builtin, word: Value) -> Option<VariableChange>
-        ensures { IfSome result (λ change. (builtin_of change ≡ builtin) ×
+    /// one of these, and otherwise the word.
+    #[inline(always)]
+    pub fn of_word(builtin: Builtin, word: Value) -> Result<VariableChange, Value>
+        ensures change { IfOk result (λ change. (builtin_of change ≡ builtin) ×
             (words_of change ≡ word ∷ [])) }
+        ensures word { IfErr result (λ left. left ≡ word) }
     {
         match builtin {
-            Builtin::Set => Some(VariableChange::Set(word)),
-            Builtin::Incr => Some(VariableChange::of_increment(word)),
-            Builtin::Append => Some(VariableChange::Append(word)),
-            Builtin::Lappend => Some(VariableChange::Lappend(word)),
-            _ => None,
+            Builtin::Set => Ok(VariableChange::Set(word)),
+            Builtin::Incr => Ok(VariableChange::of_increment(word)),
+            Builtin::Append => Ok(VariableChange::Append(word)),
+            Builtin::Lappend => Ok(VariableChange::Lappend(word)),
+            _ => Err(word),
         }
     }
 }
@@ -105,7 +107,7 @@ fn incr(
 }
 
 /// `incr` of a variable by a number at hand, or 1.
-#[inline]
+#[inline(always)]
 fn raise(
     tree: &mut Tree,
     alloc: Global,
@@ -157,6 +159,7 @@ fn lappend(
 ///
 /// # Errors
 /// Those of the command (`set`, `incr`, `append`, `lappend`) but for 241; want of memory.
+#[inline(always)]
 pub fn change_variable(
     tree: &mut Tree,
     alloc: Global,

@@ -41,6 +41,7 @@ use Rattle.tcl_tree.specs.TreeOf.{tree_of}
 use Rattle.tcl_tree.specs.declared.tree.Tree.{Tree as Table}
 use Rattle.tcl_tree.specs.declared.tree.Place.{Place as TablePlace}
 use Rattle.tcl_frames.specs.declared.fault.FrameFault.{FrameFault}
+use Rattle.tcl_value.specs.Limits.{IsWithin}
 use Rattle.tcl_value.specs.Texts.{AllWithin}
 use Rattle.tcl_calls.specs.Words.{words_of, AtOk, Closes, ClosesBy, Adds, EndsBy}
 use Rattle.tcl_evaluation.specs.Scripts.{read_so}
@@ -239,6 +240,13 @@ module _ {S : Type 0} {ways : Ways S} (style : Integers) where
   lends (x ∷ xs) before h t =
       single_goes (literal_word x) (map literal_word xs) before (ok x) x refl refl refl (lone x (within_fits x h.0))
       (lends xs (before ++ x ∷ []) h.1 (at_prog (ap (words []) (append_assoc before (x ∷ []) xs)) t))
+
+  -- and so do two before others
+  pub two_lend : {T V : Tree Own} {o z : S} {p : Path} {r : Ending} (a b : List ℕ) (rest : List WordRead) → IsWithin a → IsWithin b →
+      Proceeds ways (language style) T o p (words rest (a ∷ b ∷ [])) V z r → Proceeds ways (language style) T o p (words (literal_word a ∷ literal_word b ∷ rest) []) V z r
+  two_lend a b rest h k t =
+      single_goes (literal_word a) (literal_word b ∷ rest) [] (ok a) a refl refl refl (lone a (within_fits a h))
+      (single_goes (literal_word b) rest (a ∷ []) (ok b) b refl refl refl (lone b (within_fits b k)) t)
 
   -- given up behind a word
   pub word_lost : {T U V : Tree Own} {o u : S} {p : Path} {e : Ending} (word : WordRead) (rest : List WordRead) (before : List (List ℕ)) →

@@ -4,6 +4,8 @@ use Rattle.std.specs.Prelude.{◌≡◌, ◌⊎◌, Bool, true, false, ℤ, List
 use Rattle.std.specs.Prelude.{Some, None, Ok}
 use Rattle.std.specs.Fmt.{signed_decimal}
 use Rattle.tcl_commands.specs.Named.{builtin_of, words_of}
+use Rattle.tcl_commands.specs.Entries as entries
+use Rattle.tcl_commands.specs.declared.entries.EntryChange.{EntryChange}
 use Rattle.tcl_commands.specs.declared.named.VariableChange.{VariableChange}
 use Rattle.tcl_core.specs.Endings.{ok}
 use Rattle.tcl_core.specs.Paths.{Text, Path}
@@ -206,3 +208,13 @@ abbrev pub IsChangeIn : Table → Place → List WordRead → Text → VariableC
 IsChangeIn t place ws name change sums = (word : Text) × ((p : Path) (n : Node Own) →
     Names t place p → tree_of t p ≡ Some n → IsNamed n word (command.Builtin (builtin_of change)) ×
     AllEnd (marks_of t).integers n ws sums (word ∷ name ∷ words_of change))
+
+-- ## Changes of entries
+
+-- The word names a command that makes a change of an entry of what the variable of a name holds, in
+-- the interpreter that a place names, and each word behind it stands for its text.
+abbrev pub IsEntryChangeIn : Table → Place → Text → List WordRead → Text → EntryChange → Bool →
+    Type 0
+IsEntryChangeIn t place word ws name change sums = (p : Path) (n : Node Own) → Names t place p →
+    tree_of t p ≡ Some n → IsNamed n word (command.Builtin (entries.builtin_of change)) ×
+    AllEnd (marks_of t).integers n ws sums (entries.words_of name change)

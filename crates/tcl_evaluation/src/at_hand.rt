@@ -9,6 +9,7 @@ ghost use Rattle.tcl_evaluation.specs.Sums.{CallsNamed, CallsOnHand};
 
 use crate::calls::call_plain_command;
 use crate::commands::{call_builtin, call_command, call_procedure};
+use crate::entry_changes::{call_entry_change_on_hand, entry_change_at_hand, may_change_entry};
 use crate::expressions::if_first;
 use crate::hands::{end_at_hand, is_plain, one_of};
 use crate::sums::count_sum;
@@ -220,7 +221,7 @@ fn call_two_at_hand<O: Outside>(
 /// The same of three other words.
 #[cycle(eval)]
 #[inline(never)]
-fn call_three_at_hand<O: Outside>(
+fn call_three_words<O: Outside>(
     tree: &mut Tree,
     alloc: Global,
     outside: &mut O,
@@ -250,7 +251,7 @@ fn call_three_at_hand<O: Outside>(
 /// The same of four other words.
 #[cycle(eval)]
 #[inline(never)]
-fn call_four_at_hand<O: Outside>(
+fn call_four_words<O: Outside>(
     tree: &mut Tree,
     alloc: Global,
     outside: &mut O,
@@ -277,6 +278,89 @@ fn call_four_at_hand<O: Outside>(
     let behind = one_of(in_third, in_fourth)?;
     let sums = one_of(before, behind)?;
     call_on_hand(tree, alloc, outside, place, name, sums, &[a, b, c, d])
+}
+
+/// Calls the command that a literal names with three or four other words, if those are at hand. One
+/// that changes an entry of what a variable holds does so at once.
+#[cycle(eval)]
+#[inline(never)]
+fn change_entry_or_call<O: Outside>(
+    tree: &mut Tree,
+    alloc: Global,
+    outside: &mut O,
+    place: Place,
+    name: &Value,
+    words: &[PreparedWord],
+) -> Option<Result<Value, Interruption>>
+    requires { IsRunning tree.old place }
+    ensures runs { IfSome result (λ ended. ProceedsIn (ways O.goes O.loses) tree.old outside.old
+        place (λ style. scripts.words (literal_word name.now ∷ map seen_word words.now) []) tree.new
+        outside.new ended) }
+    ensures here { IfSome result (λ ended. OnCompletion ended (IsHere tree.old tree.new place)) }
+    ensures keeps { Keeps O.entries_left tree.old tree.new outside.old outside.new }
+    ensures unchanged { IfNone result ((tree.new ≡ tree.old) × (outside.new ≡ outside.old)) }
+{
+    name.keeps_limit();
+    match entry_change_at_hand(tree, alloc, place, name, words) {
+        Some((variable, change, sums)) => {
+            Some(call_entry_change_on_hand(tree, alloc, outside, place, variable, change, sums))
+        }
+        None => match words {
+            [_, _, _] => call_three_words(tree, alloc, outside, place, name, words),
+            [_, _, _, _] => call_four_words(tree, alloc, outside, place, name, words),
+            _ => None,
+        },
+    }
+}
+
+/// The same of three other words, where a look tells whether an entry may be changed.
+#[cycle(eval)]
+#[inline(never)]
+fn call_three_at_hand<O: Outside>(
+    tree: &mut Tree,
+    alloc: Global,
+    outside: &mut O,
+    place: Place,
+    name: &Value,
+    words: &[PreparedWord],
+) -> Option<Result<Value, Interruption>>
+    requires { IsRunning tree.old place }
+    ensures runs { IfSome result (λ ended. ProceedsIn (ways O.goes O.loses) tree.old outside.old
+        place (λ style. scripts.words (literal_word name.now ∷ map seen_word words.now) []) tree.new
+        outside.new ended) }
+    ensures here { IfSome result (λ ended. OnCompletion ended (IsHere tree.old tree.new place)) }
+    ensures keeps { Keeps O.entries_left tree.old tree.new outside.old outside.new }
+    ensures unchanged { IfNone result ((tree.new ≡ tree.old) × (outside.new ≡ outside.old)) }
+{
+    if may_change_entry(words) {
+        return change_entry_or_call(tree, alloc, outside, place, name, words);
+    }
+    call_three_words(tree, alloc, outside, place, name, words)
+}
+
+/// The same of four other words.
+#[cycle(eval)]
+#[inline(never)]
+fn call_four_at_hand<O: Outside>(
+    tree: &mut Tree,
+    alloc: Global,
+    outside: &mut O,
+    place: Place,
+    name: &Value,
+    words: &[PreparedWord],
+) -> Option<Result<Value, Interruption>>
+    requires { IsRunning tree.old place }
+    ensures runs { IfSome result (λ ended. ProceedsIn (ways O.goes O.loses) tree.old outside.old
+        place (λ style. scripts.words (literal_word name.now ∷ map seen_word words.now) []) tree.new
+        outside.new ended) }
+    ensures here { IfSome result (λ ended. OnCompletion ended (IsHere tree.old tree.new place)) }
+    ensures keeps { Keeps O.entries_left tree.old tree.new outside.old outside.new }
+    ensures unchanged { IfNone result ((tree.new ≡ tree.old) × (outside.new ≡ outside.old)) }
+{
+    if may_change_entry(words) {
+        return change_entry_or_call(tree, alloc, outside, place, name, words);
+    }
+    call_four_words(tree, alloc, outside, place, name, words)
 }
 
 /// Calls a command whose words are at hand: a literal names it, and the others are literals or

@@ -49,6 +49,19 @@ fn part_change(
     }
 }
 
+/// The change that a built-in command makes with one word behind the variable's name, if it is one
+/// of those that do.
+#[inline(always)]
+fn change_by(builtin: Builtin, word: Value) -> Option<VariableChange>
+    ensures { IfSome result (λ change. (builtin_of change ≡ builtin) ×
+        (words_of change ≡ word ∷ [])) }
+{
+    match VariableChange::of_word(builtin, word) {
+        Ok(change) => Some(change),
+        Err(_word) => None,
+    }
+}
+
 /// The change that a built-in command makes with these words behind the variable's name, where they
 /// are at hand and it changes a variable, and whether one of them is a sum or an answer in
 /// brackets, which isn't counted yet.
@@ -76,7 +89,7 @@ fn change_of_words(
                 }
             }
             let (value, sums) = end_at_hand(tree, alloc, place, word)?;
-            let change = VariableChange::of_word(builtin, value)?;
+            let change = change_by(builtin, value)?;
             Some((change, sums))
         }
         _ => None,
@@ -118,7 +131,8 @@ pub(crate) fn change_at_hand<'a>(
 ///
 /// # Errors
 /// The stop 308; those of the change's command; want of memory.
-fn call_change<O: Outside>(
+#[inline(always)]
+pub(crate) fn call_change<O: Outside>(
     tree: &mut Tree,
     alloc: Global,
     outside: &mut O,

@@ -18,7 +18,7 @@ ghost use Rattle.tcl_evaluation.specs.Scripts.{read_so};
 
 use crate::hands::counted_at_hand;
 use crate::sums::count_sum;
-use crate::words::{call_general, call_literals, change_or_call};
+use crate::words::{call_literals, change_or_call, substitute_and_call};
 use std::alloc::Global;
 use tcl_calls::words::{
     OpenElement, append, append_value, close_element, finish, open_element, within,
@@ -216,7 +216,7 @@ fn eval_command<O: Outside>(
             change_or_call(tree, alloc, outside, place, words.as_slice())
         }
         PreparedCommand::General(words) => {
-            call_general(tree, alloc, outside, place, words.as_slice())
+            substitute_and_call(tree, alloc, outside, place, words.as_slice())
         }
     }
 }

@@ -61,19 +61,34 @@ pub(crate) fn names_change(word: &Value) -> bool {
         || word.is_text(b"lappend")
 }
 
+/// Whether words are `dict` and a subcommand that changes an entry of the variable behind it. It
+/// has the name of the command that changes a variable so.
+fn name_key_change(command: &Value, subcommand: &Value) -> bool {
+    command.is_text(b"dict") && names_change(subcommand)
+}
+
 /// Whether the word behind these is to name a variable.
 pub(crate) fn want_name(words: &[PreparedWord]) -> bool {
     match words {
-        [PreparedWord::Literal(command)] => names_change(command),
+        [PreparedWord::Literal(command)] => names_change(command) || command.is_text(b"lset"),
+        [
+            PreparedWord::Literal(command),
+            PreparedWord::Literal(subcommand),
+        ] => { name_key_change(command, subcommand) }
         _ => false,
     }
 }
 
-/// Whether these are the words of such a command, with at most one behind the variable's name.
+/// Whether these are the words of a command that changes a variable, with at most one behind the
+/// variable's name, or an entry of what it holds, with one index or key.
 pub(crate) fn change_one_variable(words: &[Value]) -> bool {
     match words {
         [command, _] => command.is_text(b"incr"),
         [command, _, _] => names_change(command),
+        [command, second, _, _] => {
+            command.is_text(b"lset") || command.is_text(b"dict") && second.is_text(b"incr")
+        }
+        [command, subcommand, _, _, _] => name_key_change(command, subcommand),
         _ => false,
     }
 }

@@ -162,6 +162,7 @@ use Rattle.std.proofs.Common.{Bool}
 use Rattle.tcl_parser.specs.Reading.{read_script}
 use Rattle.tcl_evaluation.specs.Hands.{AllEnd, IsNamed}
 use Rattle.tcl_evaluation.proofs.HandCalling as Calls
+use Rattle.tcl_commands.specs.Entries as entries
 use Rattle.tcl_commands.specs.Named.{builtin_of, words_of}
 use Rattle.tcl_evaluation.proofs.Own.{charged_own, named_own}
 use Rattle.tcl_evaluation.proofs.HandPlainly.{there_at}
@@ -544,8 +545,8 @@ at_hand::call_two_at_hand-returns-clause-runs g t c =
     (Calls.two_end style_read n.0 first second c.in_ok-a.in_first c.in_ok-b.in_second c.in_ok-sums.sums c.in_ok-a.a c.in_ok-b.b (sym c.in_ok-sums.ensures) (c.in_ok-a.ensures q n.0 at.names n.1) (c.in_ok-b.ensures q n.0 at.names n.1))))))
     c.call_on_hand.ensures.runs
 
-pub at_hand::call_three_at_hand-returns-clause-runs : goal.at_hand::call_three_at_hand-returns-clause-runs
-at_hand::call_three_at_hand-returns-clause-runs g t c =
+pub at_hand::call_three_words-returns-clause-runs : goal.at_hand::call_three_words-returns-clause-runs
+at_hand::call_three_words-returns-clause-runs g t c =
     let name = c.args.name.now in
     let style_read = c.args.tree.now.integers in
     let first = seen_word c.first-item.result in
@@ -566,8 +567,8 @@ at_hand::call_three_at_hand-returns-clause-runs g t c =
     (Calls.ends_one style_read n.0 third c.in_ok-c.in_third c.in_ok-c.c (c.in_ok-c.ensures q n.0 at.names n.1)))))))
     c.call_on_hand.ensures.runs
 
-pub at_hand::call_four_at_hand-returns-clause-runs : goal.at_hand::call_four_at_hand-returns-clause-runs
-at_hand::call_four_at_hand-returns-clause-runs g t c =
+pub at_hand::call_four_words-returns-clause-runs : goal.at_hand::call_four_words-returns-clause-runs
+at_hand::call_four_words-returns-clause-runs g t c =
     let name = c.args.name.now in
     let style_read = c.args.tree.now.integers in
     let first = seen_word c.first-item.result in
@@ -588,6 +589,26 @@ at_hand::call_four_at_hand-returns-clause-runs g t c =
     (Calls.two_end style_read n.0 first second c.in_ok-a.in_first c.in_ok-b.in_second c.in_ok-before.before c.in_ok-a.a c.in_ok-b.b (sym c.in_ok-before.ensures) (c.in_ok-a.ensures q n.0 at.names n.1) (c.in_ok-b.ensures q n.0 at.names n.1))
     (Calls.two_end style_read n.0 third fourth c.in_ok-c.in_third c.in_ok-d.in_fourth c.in_ok-behind.behind c.in_ok-c.c c.in_ok-d.d (sym c.in_ok-behind.ensures) (c.in_ok-c.ensures q n.0 at.names n.1) (c.in_ok-d.ensures q n.0 at.names n.1)))))))
     c.call_on_hand.ensures.runs
+
+-- a change of an entry
+
+pub at_hand::change_entry_or_call-returns-in-Some-clause-runs : goal.at_hand::change_entry_or_call-returns-in-Some-clause-runs
+at_hand::change_entry_or_call-returns-in-Some-clause-runs g t c =
+    let name = c.args.name.now in
+    let change = c.in-Some.change in
+    let args = entries.words_of c.in-Some.variable.now change in
+    let ws = literal_word name ∷ map seen_word c.args.words.now in
+    IfRan-more c.call_entry_change_on_hand.result
+    (CallsBuiltinAtHand (ways g.O.Outside.goes g.O.Outside.loses) c.args.tree.now c.args.outside.now c.args.place (entries.builtin_of change) c.in-Some.sums args c.call_entry_change_on_hand.new.tree c.call_entry_change_on_hand.new.outside)
+    (EndsFrom (ways g.O.Outside.goes g.O.Outside.loses) c.args.tree.now c.args.outside.now c.args.place (λ style. words ws []) c.call_entry_change_on_hand.new.tree c.call_entry_change_on_hand.new.outside)
+    (λ e k q style at.
+    let n = stands (tree_of c.args.tree.now q) (tree_there c.args.tree.now q _ at.names) in
+    let there = c.in-Some.ensures q n.0 at.names n.1 in
+    let literal = Calls.literal_stands n.0.own.chain.frames (literal_word name) name refl (Steps.within_fits name c.keeps_limit.ensures) in
+    k name q style n.0 at n.1 there.0 ws (subst (λ (s : Integers). AllEnd s n.0 ws c.in-Some.sums (name ∷ args)) at.style_is (inl (literal, there.1))))
+    c.call_entry_change_on_hand.ensures.runs
+
+-- the words of commands, by how many there are
 
 pub at_hand::call_at_hand-returns-in-len1-clause-runs : goal.at_hand::call_at_hand-returns-in-len1-clause-runs
 at_hand::call_at_hand-returns-in-len1-clause-runs g t c =
@@ -661,6 +682,90 @@ words::change_or_call-returns-in-Some-clause-runs g t c =
     k found.0 q style n.0 at n.1 there.0 (map seen_word c.args.words.now)
     (subst (λ (s : Integers). AllEnd s n.0 (map seen_word c.args.words.now) c.in-Some.sums (found.0 ∷ name ∷ words_of change)) at.style_is there.1))
     c.call_change_on_hand.ensures.runs
+
+-- a change of a variable to what is evaluated
+
+pub words::call_with_value-returns-in_err-first-clause-runs : goal.words::call_with_value-returns-in_err-first-clause-runs
+words::call_with_value-returns-in_err-first-clause-runs g t c =
+    let p = err_from_is_err_and c.from_residual.result c.from_residual.ensures.1 in
+    memory_err c.from_residual.result p.0 _ _ p.1 p.2 (λ q style at. stopped)
+
+pub words::call_with_value-returns-in_err-first-clause-here : goal.words::call_with_value-returns-in_err-first-clause-here
+words::call_with_value-returns-in_err-first-clause-here g t c = unmoved c.from_residual.result c.args.tree.now c.args.place
+
+pub words::call_with_value-returns-in_err-second-clause-runs : goal.words::call_with_value-returns-in_err-second-clause-runs
+words::call_with_value-returns-in_err-second-clause-runs g t c =
+    let p = err_from_is_err_and c.from_residual-in_err-second.result c.from_residual-in_err-second.ensures.1 in
+    memory_err c.from_residual-in_err-second.result p.0 _ _ p.1 p.2 (λ q style at. stopped)
+
+pub words::call_with_value-returns-in_err-second-clause-here : goal.words::call_with_value-returns-in_err-second-clause-here
+words::call_with_value-returns-in_err-second-clause-here g t c = unmoved c.from_residual-in_err-second.result c.args.tree.now c.args.place
+
+pub words::change_to-returns-in-Ok-clause-runs : goal.words::change_to-returns-in-Ok-clause-runs
+words::change_to-returns-in-Ok-clause-runs g t c =
+    let change = c.in-Ok.change in
+    let name = c.name.result.now in
+    let args : name ∷ words_of change ≡ c.args.variable.now ∷ c.args.value ∷ [] =
+    ap (λ (x : List ℕ). x ∷ words_of change) c.name.ensures.name ∙ ap (λ (xs : List (List ℕ)). c.args.variable.now ∷ xs) c.in-Ok.ensures.change.1
+    in
+    IfRan-more c.call_change.result
+    (CallsBuiltin (ways g.O.Outside.goes g.O.Outside.loses) c.args.tree.now c.args.outside.now c.args.place (builtin_of change) (name ∷ words_of change) c.call_change.new.tree c.call_change.new.outside)
+    (EndsFrom (ways g.O.Outside.goes g.O.Outside.loses) c.args.tree.now c.args.outside.now c.args.place (λ style. words [] (c.args.command.now ∷ c.args.variable.now ∷ c.args.value ∷ [])) c.call_change.new.tree c.call_change.new.outside)
+    (λ e h q style at. let n = stands (tree_of c.args.tree.now q) (tree_there c.args.tree.now q _ at.names) in
+    at_prog (ap (λ (xs : List (List ℕ)). words [] (c.args.command.now ∷ xs)) (sym args))
+    (h c.args.command.now q style n.0 at n.1 (c.in-Some.ensures q n.0 at.names n.1 ∙ ap (λ b. Ok (command.Builtin b)) (sym c.in-Ok.ensures.change.0)))) c.call_change.ensures.runs
+
+pub words::change_by_part-returns-in_err-value-clause-runs : goal.words::change_by_part-returns-in_err-value-clause-runs
+words::change_by_part-returns-in_err-value-clause-runs g t c =
+    let word : WordRead = record { parts = seen_part c.args.part.now ∷ []; expand = false } in
+    let p = err_from_is_err_and c.from_residual.result c.from_residual.ensures.1 in
+    ran_err c.from_residual.result c.in_err-value.field-0.0 p.0 _ _ _ p.1 p.2
+    (stays_of c.eval_lone_part.result c.in_err-value.field-0.0 (EndsFrom (ways g.O.Outside.goes g.O.Outside.loses) c.args.tree.now c.args.outside.now c.args.place (λ style. parts (seen_part c.args.part.now ∷ []) [] []) c.eval_lone_part.new.tree c.eval_lone_part.new.outside) c.in_err-value.ensures.same c.eval_lone_part.ensures.runs c.in_err-value.ensures.stays)
+    (λ e h q style at. Steps.two_lend style c.args.command.now c.args.variable.now (word ∷ []) c.keeps_limit.ensures c.name-name.ensures.within
+    (Steps.word_stays style word [] (c.args.command.now ∷ c.args.variable.now ∷ []) e h.1 (h.0 q style at)))
+
+pub words::change_by_part-returns-in_err-value-clause-here : goal.words::change_by_part-returns-in_err-value-clause-here
+words::change_by_part-returns-in_err-value-clause-here g t c =
+    let p = err_from_is_err_and c.from_residual.result c.from_residual.ensures.1 in
+    here_passed c.from_residual.result c.eval_lone_part.result c.in_err-value.field-0.0 p.0 c.args.tree.now c.args.tree.now c.eval_lone_part.new.tree c.args.place p.1 p.2 c.in_err-value.ensures.same (here-refl c.args.tree.now c.args.place) c.eval_lone_part.ensures.here
+
+pub words::change_by_part-change_to-requires : goal.words::change_by_part-change_to-requires
+words::change_by_part-change_to-requires g t c κs within =
+    let here = here_text c.eval_lone_part.result c.in_ok-value.value c.args.tree.now c.eval_lone_part.new.tree c.args.place c.in_ok-value.ensures.text c.eval_lone_part.ensures.here in
+    (search rules, (search rules, still_running c.args.tree.now c.eval_lone_part.new.tree c.args.place here c.requires))
+
+pub words::change_by_part-returns-clause-runs : goal.words::change_by_part-returns-clause-runs
+words::change_by_part-returns-clause-runs g t c =
+    let word : WordRead = record { parts = seen_part c.args.part.now ∷ []; expand = false } in
+    let here = here_text c.eval_lone_part.result c.in_ok-value.value c.args.tree.now c.eval_lone_part.new.tree c.args.place c.in_ok-value.ensures.text c.eval_lone_part.ensures.here in
+    let x = ran_text c.eval_lone_part.result c.in_ok-value.value (EndsFrom (ways g.O.Outside.goes g.O.Outside.loses) c.args.tree.now c.args.outside.now c.args.place (λ style. parts (seen_part c.args.part.now ∷ []) [] []) c.eval_lone_part.new.tree c.eval_lone_part.new.outside) c.in_ok-value.ensures.text c.eval_lone_part.ensures.runs in
+    IfRan-more c.change_to.result
+    (EndsFrom (ways g.O.Outside.goes g.O.Outside.loses) c.eval_lone_part.new.tree c.eval_lone_part.new.outside c.args.place (λ style. words [] (c.args.command.now ∷ c.args.variable.now ∷ c.in_ok-value.value ∷ [])) c.change_to.new.tree c.change_to.new.outside)
+    (EndsFrom (ways g.O.Outside.goes g.O.Outside.loses) c.args.tree.now c.args.outside.now c.args.place (λ style. words (literal_word c.args.command.now ∷ literal_word c.args.variable.now ∷ word ∷ []) []) c.change_to.new.tree c.change_to.new.outside)
+    (λ e h q style at. Steps.two_lend style c.args.command.now c.args.variable.now (word ∷ []) c.keeps_limit.ensures c.name-name.ensures.within
+    (Steps.single_goes style word [] (c.args.command.now ∷ c.args.variable.now ∷ []) x.0 c.in_ok-value.value refl x.2 x.3 (x.1 q style at)
+    (h q style (still_at c.args.tree.now c.eval_lone_part.new.tree c.args.place q style here at)))) c.change_to.ensures.runs
+
+pub words::change_by_part-returns-clause-here : goal.words::change_by_part-returns-clause-here
+words::change_by_part-returns-clause-here g t c =
+    here_then c.change_to.result c.args.tree.now c.eval_lone_part.new.tree c.change_to.new.tree c.args.place
+    (here_text c.eval_lone_part.result c.in_ok-value.value c.args.tree.now c.eval_lone_part.new.tree c.args.place c.in_ok-value.ensures.text c.eval_lone_part.ensures.here) c.change_to.ensures.here
+
+pub words::change_by_part-returns-clause-keeps : goal.words::change_by_part-returns-clause-keeps
+words::change_by_part-returns-clause-keeps g t c = keeps-trans c.eval_lone_part.ensures.keeps c.change_to.ensures.keeps
+
+pub words::substitute_and_call-returns-in-Lone-clause-runs : goal.words::substitute_and_call-returns-in-Lone-clause-runs
+words::substitute_and_call-returns-in-Lone-clause-runs g t c =
+    let seen : map seen_word c.args.words.now ≡ literal_word c.in-Literal.command ∷ literal_word c.in-Name.variable ∷ record { parts = seen_part c.in-Lone.part ∷ []; expand = false } ∷ [] =
+    ap (map seen_word) (three_items c.args.words.now c.first-item.result c.second-item.result c.third-item.result c.in-len3.len_at_least c.in-len3.len_below c.first-item.is c.second-item.is c.third-item.is)
+    ∙ ap (λ (w : WordRead). w ∷ seen_word c.second-item.result ∷ seen_word c.third-item.result ∷ []) (ap seen_word c.in-Literal.is)
+    ∙ ap (λ (w : WordRead). literal_word c.in-Literal.command ∷ w ∷ seen_word c.third-item.result ∷ []) (ap seen_word c.in-Name.is)
+    ∙ ap (λ (w : WordRead). literal_word c.in-Literal.command ∷ literal_word c.in-Name.variable ∷ w ∷ []) (ap seen_word c.in-Lone.is)
+    in
+    IfRan-more c.change_by_part.result
+    (EndsFrom (ways g.O.Outside.goes g.O.Outside.loses) c.args.tree.now c.args.outside.now c.args.place (λ style. words (literal_word c.in-Literal.command ∷ literal_word c.in-Name.variable ∷ record { parts = seen_part c.in-Lone.part ∷ []; expand = false } ∷ []) []) c.change_by_part.new.tree c.change_by_part.new.outside)
+    (EndsFrom (ways g.O.Outside.goes g.O.Outside.loses) c.args.tree.now c.args.outside.now c.args.place (λ style. words (map seen_word c.args.words.now) []) c.change_by_part.new.tree c.change_by_part.new.outside)
+    (λ e h q style at. at_prog (ap (λ (ws : List WordRead). words ws []) seen) (h q style at)) c.change_by_part.ensures.runs
 
 -- any number of words
 
@@ -748,9 +853,9 @@ evaluation::eval_command-returns-in-AtHand-clause-runs g t c =
 
 pub evaluation::eval_command-returns-in-General-clause-runs : goal.evaluation::eval_command-returns-in-General-clause-runs
 evaluation::eval_command-returns-in-General-clause-runs g t c =
-    IfRan-more c.call_general.result (EndsFrom (ways g.O.Outside.goes g.O.Outside.loses) c.args.tree.now c.args.outside.now c.args.place (λ style. words (map seen_word c.as_slice-in-General.result.now) []) c.call_general.new.tree c.call_general.new.outside)
-    (EndsFrom (ways g.O.Outside.goes g.O.Outside.loses) c.args.tree.now c.args.outside.now c.args.place (λ style. words (seen_command c.args.command.now) []) c.call_general.new.tree c.call_general.new.outside)
-    (λ e h q style at. at_prog (ap (λ (command : PreparedCommand). words (seen_command command) []) c.in-General.is ∙ ap (λ (ws : List PreparedWord). words (map seen_word ws) []) (sym c.as_slice-in-General.ensures.value)) (h q style at)) c.call_general.ensures.runs
+    IfRan-more c.substitute_and_call.result (EndsFrom (ways g.O.Outside.goes g.O.Outside.loses) c.args.tree.now c.args.outside.now c.args.place (λ style. words (map seen_word c.as_slice-in-General.result.now) []) c.substitute_and_call.new.tree c.substitute_and_call.new.outside)
+    (EndsFrom (ways g.O.Outside.goes g.O.Outside.loses) c.args.tree.now c.args.outside.now c.args.place (λ style. words (seen_command c.args.command.now) []) c.substitute_and_call.new.tree c.substitute_and_call.new.outside)
+    (λ e h q style at. at_prog (ap (λ (command : PreparedCommand). words (seen_command command) []) c.in-General.is ∙ ap (λ (ws : List PreparedWord). words (map seen_word ws) []) (sym c.as_slice-in-General.ensures.value)) (h q style at)) c.substitute_and_call.ensures.runs
 
 -- the commands of a script
 

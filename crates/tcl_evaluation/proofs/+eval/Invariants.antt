@@ -91,29 +91,50 @@ decreases-at_hand::call_one_at_hand g l = 32032 * g.O.Outside.entries_left l.out
 abbrev pub decreases-at_hand::call_two_at_hand : goal.decreases-at_hand::call_two_at_hand
 decreases-at_hand::call_two_at_hand g l = 32032 * g.O.Outside.entries_left l.outside.now + 32 * room (tree_of l.tree.now) + 15
 
+abbrev pub decreases-at_hand::call_three_words : goal.decreases-at_hand::call_three_words
+decreases-at_hand::call_three_words g l = 32032 * g.O.Outside.entries_left l.outside.now + 32 * room (tree_of l.tree.now) + 15
+
+abbrev pub decreases-at_hand::call_four_words : goal.decreases-at_hand::call_four_words
+decreases-at_hand::call_four_words g l = 32032 * g.O.Outside.entries_left l.outside.now + 32 * room (tree_of l.tree.now) + 15
+
+abbrev pub decreases-at_hand::change_entry_or_call : goal.decreases-at_hand::change_entry_or_call
+decreases-at_hand::change_entry_or_call g l = 32032 * g.O.Outside.entries_left l.outside.now + 32 * room (tree_of l.tree.now) + 16
+
 abbrev pub decreases-at_hand::call_three_at_hand : goal.decreases-at_hand::call_three_at_hand
-decreases-at_hand::call_three_at_hand g l = 32032 * g.O.Outside.entries_left l.outside.now + 32 * room (tree_of l.tree.now) + 15
+decreases-at_hand::call_three_at_hand g l = 32032 * g.O.Outside.entries_left l.outside.now + 32 * room (tree_of l.tree.now) + 17
 
 abbrev pub decreases-at_hand::call_four_at_hand : goal.decreases-at_hand::call_four_at_hand
-decreases-at_hand::call_four_at_hand g l = 32032 * g.O.Outside.entries_left l.outside.now + 32 * room (tree_of l.tree.now) + 15
+decreases-at_hand::call_four_at_hand g l = 32032 * g.O.Outside.entries_left l.outside.now + 32 * room (tree_of l.tree.now) + 17
 
 abbrev pub decreases-at_hand::call_at_hand : goal.decreases-at_hand::call_at_hand
-decreases-at_hand::call_at_hand g l = 32032 * g.O.Outside.entries_left l.outside.now + 32 * room (tree_of l.tree.now) + 16
+decreases-at_hand::call_at_hand g l = 32032 * g.O.Outside.entries_left l.outside.now + 32 * room (tree_of l.tree.now) + 18
+
+abbrev pub decreases-words::call_with_value : goal.decreases-words::call_with_value
+decreases-words::call_with_value g l = 32032 * g.O.Outside.entries_left l.outside.now + 32 * room (tree_of l.tree.now) + 14
+
+abbrev pub decreases-words::change_to : goal.decreases-words::change_to
+decreases-words::change_to g l = 32032 * g.O.Outside.entries_left l.outside.now + 32 * room (tree_of l.tree.now) + 15
+
+abbrev pub decreases-words::change_by_part : goal.decreases-words::change_by_part
+decreases-words::change_by_part g l = 32032 * g.O.Outside.entries_left l.outside.now + 32 * room (tree_of l.tree.now) + 16
+
+abbrev pub decreases-words::substitute_and_call : goal.decreases-words::substitute_and_call
+decreases-words::substitute_and_call g l = 32032 * g.O.Outside.entries_left l.outside.now + 32 * room (tree_of l.tree.now) + 17
 
 abbrev pub decreases-words::call_general : goal.decreases-words::call_general
 decreases-words::call_general g l = 32032 * g.O.Outside.entries_left l.outside.now + 32 * room (tree_of l.tree.now) + 16
 
 abbrev pub decreases-words::call_words : goal.decreases-words::call_words
-decreases-words::call_words g l = 32032 * g.O.Outside.entries_left l.outside.now + 32 * room (tree_of l.tree.now) + 17
+decreases-words::call_words g l = 32032 * g.O.Outside.entries_left l.outside.now + 32 * room (tree_of l.tree.now) + 19
 
 abbrev pub decreases-words::change_or_call : goal.decreases-words::change_or_call
-decreases-words::change_or_call g l = 32032 * g.O.Outside.entries_left l.outside.now + 32 * room (tree_of l.tree.now) + 18
+decreases-words::change_or_call g l = 32032 * g.O.Outside.entries_left l.outside.now + 32 * room (tree_of l.tree.now) + 20
 
 abbrev pub decreases-evaluation::eval_command : goal.decreases-evaluation::eval_command
-decreases-evaluation::eval_command g l = 32032 * g.O.Outside.entries_left l.outside.now + 32 * room (tree_of l.tree.now) + 19
+decreases-evaluation::eval_command g l = 32032 * g.O.Outside.entries_left l.outside.now + 32 * room (tree_of l.tree.now) + 21
 
 abbrev pub decreases-evaluation::eval_commands : goal.decreases-evaluation::eval_commands
-decreases-evaluation::eval_commands g l = 32032 * g.O.Outside.entries_left l.outside.now + 32 * room (tree_of l.tree.now) + 20
+decreases-evaluation::eval_commands g l = 32032 * g.O.Outside.entries_left l.outside.now + 32 * room (tree_of l.tree.now) + 22
 
 abbrev pub decreases-crossing::call_target : goal.decreases-crossing::call_target
 decreases-crossing::call_target g l = 32032 * g.O.Outside.entries_left l.outside.now + 32 * room (tree_of l.tree.now) + 0
