@@ -1,12 +1,21 @@
 -- Commands that change one entry of what a variable holds: an element of a list, or the value of a
 -- key of a dict.
-use Rattle.std.specs.Prelude.{List, [], ◌∷◌, ◌++◌, Option, None, Some, codes}
+use Rattle.std.specs.Prelude.{ℕ, List, [], ◌∷◌, ◌++◌, Option, None, Some, codes}
 use Rattle.tcl_core.specs.Paths.{Text}
 use Rattle.tcl_interpreter.specs.declared.builtin.Builtin.{Builtin}
 use Rattle.tcl_interpreter.specs.declared.builtin.Builtin.TheVariants as name
+use Rattle.tcl_commands.specs.declared.entries.Verb.{Verb}
+use Rattle.tcl_commands.specs.declared.entries.Verb.TheVariants.{Set, Incr, Append, Lappend}
 use Rattle.tcl_commands.specs.declared.entries.EntryChange.{EntryChange}
 use Rattle.tcl_commands.specs.declared.entries.EntryChange.TheVariants.{Element, SetKey, AddToKey}
 use Rattle.tcl_commands.specs.declared.entries.EntryChange.TheVariants.{AppendToKey, LappendToKey}
+
+-- the names of the subcommands of `dict` that change the value of one key
+abbrev pub verb_name : Verb → List ℕ
+verb_name Set = codes "set"
+verb_name Incr = codes "incr"
+verb_name Append = codes "append"
+verb_name Lappend = codes "lappend"
 
 -- the command that makes the change
 abbrev pub builtin_of : EntryChange → Builtin

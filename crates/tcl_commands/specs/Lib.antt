@@ -18,3 +18,4 @@ pub mod Named
 pub mod Subcommands
 pub mod Setting
 pub mod Entries
+pub mod Texts

@@ -1,6 +1,6 @@
 //! Commands that change one entry of what a variable holds, where its name was read before: an
 //! element of a list, or the value of a key of a dict.
-ghost use Rattle.std.specs.Prelude.{◌≡◌, ◌∷◌, [], codes, IfSome};
+ghost use Rattle.std.specs.Prelude.{◌≡◌, ◌≢◌, ◌∷◌, [], codes, IfSome, MatchOption};
 ghost use Rattle.std.specs.Option.{option_copied};
 ghost use Rattle.tcl_core.specs.Paths.{Path};
 ghost use Rattle.tcl_interpreter.specs.declared.builtin.Builtin.TheVariants as name;
@@ -10,7 +10,8 @@ ghost use Rattle.tcl_run.specs.Plain.{Acts};
 ghost use Rattle.tcl_run.specs.Runs.{IsLevel};
 ghost use Rattle.tcl_tree.specs.TreeOf.{Names};
 ghost use Rattle.tcl_commands.specs.Entries.{builtin_of, given_words, words_before, words_behind};
-ghost use Rattle.tcl_commands.specs.Entries.{words_of};
+ghost use Rattle.tcl_commands.specs.Entries.{words_of, verb_name};
+ghost use Rattle.tcl_commands.specs.declared.entries.Verb.{Verb};
 
 use crate::changing::{Change, change_variable};
 use std::alloc::Global;
@@ -18,6 +19,40 @@ use tcl_frames::variable_name::VariableName;
 use tcl_run::interruption::Interruption;
 use tcl_tree::tree::{Place, Tree};
 use tcl_value::value::Value;
+
+/// A subcommand of `dict` that changes the value of one key.
+#[derive(Clone, Copy, Drop)]
+enum Verb {
+    Set,
+    Incr,
+    Append,
+    Lappend,
+}
+
+impl Verb {
+    /// The subcommand that a word names, where the word is kept as a text.
+    #[inline(always)]
+    fn named(word: &Value) -> Option<Verb>
+        ensures { IfSome result (λ verb. word.now ≡ verb_name verb) }
+    {
+        Verb::of_bytes(word.as_text()?.as_str().as_bytes())
+    }
+
+    /// The subcommand of this name. The bytes are told apart at once.
+    #[inline(always)]
+    fn of_bytes(name: &[u8]) -> Option<Verb>
+        ensures { MatchOption result ((verb : Verb) → name.now ≢ verb_name verb)
+            (λ verb. name.now ≡ verb_name verb) }
+    {
+        match name {
+            [b's', b'e', b't'] => Some(Verb::Set),
+            [b'i', b'n', b'c', b'r'] => Some(Verb::Incr),
+            [b'a', b'p', b'p', b'e', b'n', b'd'] => Some(Verb::Append),
+            [b'l', b'a', b'p', b'p', b'e', b'n', b'd'] => Some(Verb::Lappend),
+            _ => None,
+        }
+    }
+}
 
 /// A command that changes one entry of what a variable holds, with its words behind the variable's
 /// name.
@@ -43,19 +78,13 @@ impl EntryChange {
         ensures before { IfSome result (λ change. words_before change ≡ subcommand.now ∷ []) }
         ensures behind { IfSome result (λ change. words_behind change ≡ key ∷ word ∷ []) }
     {
-        if subcommand.is_text(b"set") {
-            return Some(EntryChange::SetKey(key, word));
-        }
-        if subcommand.is_text(b"incr") {
-            return Some(EntryChange::AddToKey(key, Some(word)));
-        }
-        if subcommand.is_text(b"lappend") {
-            return Some(EntryChange::LappendToKey(key, word));
-        }
-        if subcommand.is_text(b"append") {
-            return Some(EntryChange::AppendToKey(key, word));
-        }
-        None
+        let change = match Verb::named(subcommand)? {
+            Verb::Set => EntryChange::SetKey(key, word),
+            Verb::Incr => EntryChange::AddToKey(key, Some(word)),
+            Verb::Append => EntryChange::AppendToKey(key, word),
+            Verb::Lappend => EntryChange::LappendToKey(key, word),
+        };
+        Some(change)
     }
 
     /// The change that a subcommand of `dict` makes with a key alone, if it is one of these.
@@ -64,10 +93,10 @@ impl EntryChange {
         ensures before { IfSome result (λ change. words_before change ≡ subcommand.now ∷ []) }
         ensures behind { IfSome result (λ change. words_behind change ≡ key ∷ []) }
     {
-        if subcommand.is_text(b"incr") {
-            return Some(EntryChange::AddToKey(key, None));
+        match Verb::named(subcommand)? {
+            Verb::Incr => Some(EntryChange::AddToKey(key, None)),
+            Verb::Set | Verb::Append | Verb::Lappend => None,
         }
-        None
     }
 }
 

@@ -1,5 +1,7 @@
 //! The commands on texts.
-ghost use Rattle.std.specs.Prelude.{◌≡◌, ◌∷◌, []};
+ghost use Rattle.std.specs.Prelude.{◌≡◌, ◌≢◌, ◌∷◌, [], IfSome, MatchOption};
+ghost use Rattle.tcl_commands.specs.Texts.{verb_name};
+ghost use Rattle.tcl_commands.specs.declared.texts.Verb.{Verb};
 ghost use Rattle.tcl_format.specs.Filling.{format_of};
 ghost use Rattle.tcl_language.specs.Data.{answered};
 ghost use Rattle.tcl_run.specs.Plain.{Acts};
@@ -22,6 +24,38 @@ use tcl_tree::tree::{Place, Tree};
 use tcl_value::value::Value;
 use tcl_words::limits::{count_answer, text_answer};
 use tcl_words::refusal::Refusal;
+
+/// A subcommand of `string` for whose words no list of texts is made.
+#[derive(Clone, Copy, Drop)]
+enum Verb {
+    Length,
+    Index,
+    Range,
+}
+
+impl Verb {
+    /// The subcommand that a word names, where the word is kept as a text.
+    #[inline(always)]
+    fn named(word: &Value) -> Option<Verb>
+        ensures { IfSome result (λ verb. word.now ≡ verb_name verb) }
+    {
+        Verb::of_bytes(word.as_text()?.as_str().as_bytes())
+    }
+
+    /// The subcommand of this name. The bytes are told apart at once.
+    #[inline(always)]
+    fn of_bytes(name: &[u8]) -> Option<Verb>
+        ensures { MatchOption result ((verb : Verb) → name.now ≢ verb_name verb)
+            (λ verb. name.now ≡ verb_name verb) }
+    {
+        match name {
+            [b'l', b'e', b'n', b'g', b't', b'h'] => Some(Verb::Length),
+            [b'i', b'n', b'd', b'e', b'x'] => Some(Verb::Index),
+            [b'r', b'a', b'n', b'g', b'e'] => Some(Verb::Range),
+            _ => None,
+        }
+    }
+}
 
 /// What `string` gives of these texts.
 fn string_answer(alloc: Global, style: Integers, texts: &[Text]) -> Result<Value, Refusal>
@@ -81,7 +115,7 @@ fn answer_of_two(
 ) -> Result<Value, Refusal>
     ensures { Gives (λ value. value) result (string_of style (first.now ∷ second.now ∷ [])) }
 {
-    if first.is_text(b"length") {
+    if let Some(Verb::Length) = Verb::named(first) {
         return characters_in(alloc, second);
     }
     let first = first.text(alloc)?;
@@ -100,7 +134,7 @@ fn answer_of_three(
     ensures { Gives (λ value. value) result
         (string_of style (first.now ∷ second.now ∷ third.now ∷ [])) }
 {
-    if first.is_text(b"index") {
+    if let Some(Verb::Index) = Verb::named(first) {
         return character_at(alloc, style, second, third);
     }
     let first = first.text(alloc)?;
@@ -121,7 +155,7 @@ fn answer_of_four(
     ensures { Gives (λ value. value) result
         (string_of style (first.now ∷ second.now ∷ third.now ∷ fourth.now ∷ [])) }
 {
-    if first.is_text(b"range") {
+    if let Some(Verb::Range) = Verb::named(first) {
         return characters_between(alloc, style, second, third, fourth);
     }
     let first = first.text(alloc)?;

@@ -17,3 +17,4 @@ pub mod NestedPlaces
 pub mod Placed
 pub mod Named
 pub mod Plain
+pub mod AtHand

@@ -1,5 +1,6 @@
 //! The change that `lset` makes.
-ghost use Rattle.std.specs.Prelude.{◌≡◌, List, ℕ, Result, codes};
+ghost use Rattle.std.specs.Prelude.{◌≡◌, List, ℕ, Result, Ok, codes};
+ghost use Rattle.std.specs.Bool.{OnTrue, OnFalse};
 ghost use Rattle.tcl_words.specs.Outcomes.{Gives, Refuses};
 ghost use Rattle.tcl_lists.specs.Nested.{element_changed};
 ghost use Rattle.tcl_lists.specs.Lists.{Texts, Changes, first_middle_last};
@@ -10,6 +11,7 @@ use crate::nested::set_element;
 use crate::reading::{first_middle_last, own_list};
 use crate::refusing::nested_refusal;
 use std::alloc::Global;
+use tcl_text::index::{Index, place};
 use tcl_text::integer::Integers;
 use tcl_value::value::Value;
 use tcl_words::refusal::Refusal;
@@ -73,6 +75,26 @@ fn set_at_path(
     }
 }
 
+/// Puts a value in the place of the element that a lone index word names, where the word is kept as
+/// a number and the list as one. Says whether it did; where it didn't, nothing is changed, and the
+/// change is one to be made otherwise.
+fn put_at_number(alloc: Global, old: &mut Value, words: &[Value], new: &Value) -> bool
+    ensures changed { OnTrue result
+        ((style : Integers) → lset_of style old.old words.now new.now ≡ Ok old.new) }
+    ensures unchanged { OnFalse result (old.new ≡ old.old) }
+{
+    let [index] = words else {
+        return false;
+    };
+    let Some(number) = index.number() else {
+        return false;
+    };
+    let Index::At(at) = place(number) else {
+        return false;
+    };
+    old.replace_at(alloc, at as usize, new)
+}
+
 /// What `lset varName ?index ...? newValue` makes of the variable's value: another element stands
 /// at the first index in its list, at the next index in the list that stands there, and so on. The
 /// place behind the last element adds one. Each word may be a list of indexes; where they name
@@ -92,6 +114,9 @@ pub fn lset(
 ) -> Result<(), Refusal>
     ensures { Changes result old.old old.new (lset_of style old.old words.now new.now) }
 {
+    if put_at_number(alloc, old, words, new) {
+        return Ok(());
+    }
     let own = new.clone()?;
     if are_numbers(words) {
         return set_at_path(alloc, style, old, words, own);

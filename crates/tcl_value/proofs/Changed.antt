@@ -1,5 +1,7 @@
 -- Changes of a list that a value keeps.
-use Rattle.std.proofs.Common.{refl, ◌≡◌, ℕ, List, [], ◌∷◌, ◌++◌, Result, Ok, Err, sym, ◌∙◌, ap, subst, length, set, ◌<◌, ◌≤◌, arith, ◌⊎◌, inl, inr, Global, OnOk, IfErr}
+use Rattle.std.proofs.Common.{refl, ◌≡◌, ℕ, List, [], ◌∷◌, ◌++◌, Result, Ok, Err, sym, ◌∙◌, ap, subst, length, set, ◌<◌, ◌≤◌, arith, ◌⊎◌, inl, inr, Global, OnOk, IfErr, Bool}
+use Rattle.std.specs.Prelude.{is_ok}
+use Rattle.std.specs.Bool.{OnTrue}
 use Rattle.std.specs.declared.rc.Rc.{Rc}
 use Rattle.tcl_text.specs.declared.integer.Integers.{Integers}
 use Rattle.tcl_text.specs.declared.integer.IntegerFault.TheVariants.{NotInteger}
@@ -57,6 +59,11 @@ set_at (Ok x) old xs new i v t e q p w =
     let same = p.1 ∙ ap (λ z. set xs i z) q in
     subst (λ r. AtList r (λ list. (i < length list) × (write new ≡ write (set list i v)) × IsWithin (write (set list i v)))) (sym e) (p.0, ap write same, subst (λ l. IsWithin (write l)) same w)
 set_at (Err x) old xs new i v t e q p w = tt
+
+-- a test on what a call returned tells what holds where it succeeded
+pub told_done : {U E : Type 0} (P : Type 0) (r : Result U E) (done : Bool) → done ≡ is_ok r → OnOk r P → OnTrue done P
+told_done P (Ok x) done e h = subst (λ b. OnTrue b P) (sym e) h
+told_done P (Err x) done e h = subst (λ b. OnTrue b P) (sym e) tt
 
 pub set_refused_at : {U : Type 0} (r : Result U ChangeError) (old : List ℕ) (xs : List (List ℕ)) (i : ℕ) (v t : List ℕ) → list_of old ≡ Ok xs → t ≡ v → IfErr r (λ e. Refuses e (Ok xs) (λ list. IsPast (write (set list i t))) (λ list. length list ≤ i)) → IfErr r (λ e. Refuses e (list_of old) (λ list. IsPast (write (set list i v))) (λ list. length list ≤ i))
 set_refused_at r old xs i v t e q h =

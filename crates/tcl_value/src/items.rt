@@ -249,6 +249,7 @@ impl Items {
     }
 
     /// What it would weigh with one more element.
+    #[inline(always)]
     fn weight_with(&self, element: &Element) -> u128
         requires { IsElement element.now }
         ensures { result ≡ weight (self.now ++ element_text element.now ∷ []) }

@@ -154,6 +154,24 @@ impl Value {
         Ok(())
     }
 
+    /// Puts an element in the place of another in the list that it is kept as: in place where that
+    /// isn't shared. Says whether it did; where it didn't, nothing is changed, and the change is one
+    /// to be made otherwise.
+    pub fn replace_at(&mut self, alloc: Global, place: usize, value: &Value) -> bool
+        ensures set { OnTrue result (AtList (list_of self.old)
+            (λ list. (place < length list) × (self.new ≡ write (slice_set list place value.now)) ×
+            IsWithin (write (slice_set list place value.now)))) }
+        ensures unchanged { OnFalse result (self.new ≡ self.old) }
+    {
+        let Ok(element) = own_element(alloc, value) else {
+            return false;
+        };
+        if let Form::List(items) = &mut self.form {
+            return set_shared(items, place, element).is_ok();
+        }
+        false
+    }
+
     /// Gives a key a value in the dict that it reads as: in place where it is kept as a dict that
     /// isn't shared.
     ///
@@ -333,7 +351,11 @@ fn own_element(alloc: Global, value: &Value) -> Result<Element, AllocError>
     ensures text { IfOk result (λ element. element_text element ≡ value.now) }
     ensures element { IfOk result IsElement }
 {
-    value.clone()?.into_element(alloc)
+    match &value.form {
+        Form::Number(n) => Ok(Element::Number(*n)),
+        Form::Text(text) => Ok(Element::Text(text.clone()?)),
+        _ => value.share()?.into_element(alloc),
+    }
 }
 
 /// Whether lists and dicts aren't too deep in one another where an element stands so many levels

@@ -18,6 +18,7 @@ use std::rc::Rc;
 use tcl_text::text::Text;
 
 /// Puts an element in the place of another in a list: in place where it isn't shared.
+#[inline(always)]
 pub(crate) fn set_shared(
     items: &mut Rc<Items>,
     index: usize,
