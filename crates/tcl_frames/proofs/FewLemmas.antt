@@ -1,5 +1,6 @@
 -- Entries that are looked through one by one.
 use Rattle.std.proofs.Common.{◌≡◌, ℕ, zero, suc, ◌+◌, ◌<◌, Bool, true, false, cond, List, [], ◌∷◌, ◌++◌, map, length, get_or, take, append_assoc, append-nil, slice_get, slice_set, Option, Some, None, is_some, refl, sym, ◌∙◌, ap, subst, add-one, arith}
+use Rattle.std.specs.Prelude.{MatchOption}
 use Rattle.std.specs.Cmp.Lexicographic.{nat_list_eq_equiv}
 use Rattle.std.specs.List.{AllByRecursion, AllZip, IsDistinct, list_any, remove}
 use Rattle.std.specs.Map.{lookup, set_value, remove_entry, keys_of}
@@ -62,6 +63,22 @@ module _ {V : Type 0} where
       ap (λ (f : Text × V). Some f.1) is ∙ sym (ap (λ b. cond b (Some e.1) (lookup (bytes_eq q) es)) (here e q s.0 same))
   place_found (e ∷ es) (suc i) q d h s is =
       place_found es i q d (later e es h) s is ∙ sym (ap (λ b. cond b (Some e.1) (lookup (bytes_eq q) es)) (other e es i q s.0 h s.1))
+
+  some_case : (b : Bool) (v : V) (o : Option V) → is_some o ≡ true → is_some (cond b (Some v) o) ≡ true
+  some_case true v o h = refl
+  some_case false v o h = h
+
+  holds_some : (es : List (Text × V)) (i : ℕ) (q : Text) → Holds q es i → is_some (lookup (bytes_eq q) es) ≡ true
+  holds_some [] i q s = absurd (let e = s.1 in cc)
+  holds_some (e ∷ es) zero q s =
+      let same : e ≡ (q, s.0) = let at = s.1 in cc in
+      ap (λ b. is_some (cond b (Some e.1) (lookup (bytes_eq q) es))) (here e q s.0 same)
+  holds_some (e ∷ es) (suc i) q s = some_case (bytes_eq q e.0) e.1 (lookup (bytes_eq q) es) (holds_some es i q s)
+
+  -- a name is there where a place of it is known
+  pub is_there : (es : List (Text × V)) (q : Text) (o : Option ℕ) → MatchOption o (lookup (bytes_eq q) es ≡ None) (λ i. Holds q es i) → is_some o ≡ is_some (lookup (bytes_eq q) es)
+  is_there es q None h = sym (ap is_some h)
+  is_there es q (Some i) h = sym (holds_some es i q h)
 
   -- what is written at the place of a name is written for the name
   pub place_set : (es : List (Text × V)) (i : ℕ) (q : Text) (d : Text × V) (w : V) → IsDistinct bytes_eq (keys_of es) → Holds q es i → d ≡ get_or es i d → slice_set es i (d.0, w) ≡ set_value (bytes_eq q) es w

@@ -1,6 +1,7 @@
 //! A few names, which are looked through one by one.
 ghost use Rattle.std.specs.Prelude.{◌≡◌, ◌<◌, [], Some, None, MatchOption, IfSome, IfOk, OnOk};
 ghost use Rattle.std.specs.Prelude.{OnErr, length, map, not, slice_get, vec_len, false, IsTrue};
+ghost use Rattle.std.specs.Prelude.{is_some};
 ghost use Rattle.std.specs.Borrow.{sem};
 ghost use Rattle.std.specs.List.{IsDistinct};
 ghost use Rattle.std.specs.Map.{lookup, keys_of, remove_entry};
@@ -78,6 +79,20 @@ fn stands_short_at<V>(entries: &[(Text, V)], place: usize, name: &Text) -> bool
     place < entries.len() && entries[place].0.is_same_short(name)
 }
 
+/// The place at which a text stands as a name, from 0. First bytes are compared as a number.
+#[inline(always)]
+fn place_of_text<V>(entries: &[(Text, V)], name: &Text) -> Option<usize>
+    ensures { MatchOption result (lookup (bytes_eq name.now) entries.now ≡ None)
+        (λ i. Holds name.now entries.now i) }
+{
+    'entries: for index in 0..entries.len() {
+        if entries[index].0 == *name {
+            return Some(index);
+        }
+    }
+    None
+}
+
 /// The place at which a name stands, from 0, which the name keeps. It isn't inlined, so that a name
 /// that stands where it was found last costs little.
 #[inline(never)]
@@ -85,7 +100,7 @@ fn sought_place<V>(entries: &[(Text, V)], name: &VariableName) -> Option<usize>
     ensures { MatchOption result (lookup (bytes_eq name.now) entries.now ≡ None)
         (λ i. Holds name.now entries.now i) }
 {
-    match place_of(entries, name.as_str()) {
+    match place_of_text(entries, name.text()) {
         Some(place) => {
             name.set_hint(place);
             Some(place)
@@ -142,6 +157,14 @@ impl<V> FewNames<V> {
             Some(place) => Some(&self.entries[place].1),
             None => None,
         }
+    }
+
+    /// Whether a text is one of the names.
+    #[inline(always)]
+    pub fn has(&self, name: &Text) -> bool
+        ensures { result ≡ is_some (lookup (bytes_eq name.now) self.now) }
+    {
+        place_of_text(self.entries.as_slice(), name).is_some()
     }
 
     /// Whether a name of at most eight bytes stands where it was found last. A hint, of which

@@ -276,7 +276,7 @@ impl Frame {
     pub fn insert_near(
         &mut self,
         alloc: Global,
-        name: &VariableName,
+        name: &Text,
         value: Value,
     ) -> Result<Option<Value>, AllocError>
         ensures ok { IfOk result
@@ -286,11 +286,11 @@ impl Frame {
             (self.new ≡ self.old))) }
         ensures unchanged { OnErr result (self.new ≡ self.old) }
     {
-        if self.variable_near(name).is_some() {
+        if self.variables.has(name) {
             return Ok(Some(value));
         }
         self.variables
-            .insert_absent(alloc, name.text(), Variable::Scalar(value))?;
+            .insert_absent(alloc, name, Variable::Scalar(value))?;
         Ok(None)
     }
 

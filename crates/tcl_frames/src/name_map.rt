@@ -1,6 +1,6 @@
 //! Maps from names, in the order of insertion.
 ghost use Rattle.std.specs.Prelude.{◌≡◌, [], Some, None, IfSome, IfOk, OnOk, OnErr};
-ghost use Rattle.std.specs.Prelude.{length, slice_get, IsTrue};
+ghost use Rattle.std.specs.Prelude.{is_some, length, slice_get, IsTrue};
 ghost use Rattle.std.specs.Borrow.{sem};
 ghost use Rattle.std.specs.Map.{lookup, remove_entry};
 ghost use Rattle.std.specs.Option.{option_map, option_copied, option_copied_mut};
@@ -83,6 +83,17 @@ impl<V> NameMap<V> {
         match &self.entries {
             Entries::Few(few) => few.get_hinted(name),
             Entries::Many(many) => many.get_hinted(name),
+        }
+    }
+
+    /// Whether a text is one of the names. This takes no memory.
+    #[inline(always)]
+    pub fn has(&self, name: &Text) -> bool
+        ensures { result ≡ is_some (lookup (bytes_eq name.now) self.now) }
+    {
+        match &self.entries {
+            Entries::Few(few) => few.has(name),
+            Entries::Many(many) => many.get(name.as_str()).is_some(),
         }
     }
 

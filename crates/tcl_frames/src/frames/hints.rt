@@ -1,14 +1,17 @@
 //! Names that are looked up in less time where they stand where they were found last.
-ghost use Rattle.std.specs.Prelude.{◌≡◌, Ok, MatchOption, IfOk, OnOk, IfErr, OnErr, IfSome};
+ghost use Rattle.std.specs.Prelude.{◌≡◌, true, Ok, MatchOption, IfOk, OnOk, IfErr, OnErr, IfSome};
 ghost use Rattle.std.specs.Borrow.{sem};
 ghost use Rattle.tcl_frames.specs.Faults.{Refuses};
 ghost use Rattle.tcl_frames.specs.Chain.{read, after_set};
 ghost use Rattle.tcl_frames.specs.LendingChain.{LendsNear};
+ghost use Rattle.tcl_frames.specs.Names.{is_simple};
 
 use crate::fault::FrameError;
 use crate::frames::Frames;
+use crate::name::is_simple;
 use crate::variable_name::VariableName;
 use std::alloc::{AllocError, Global};
+use tcl_text::text::Text;
 use tcl_value::value::Value;
 
 impl Frames {
@@ -125,25 +128,41 @@ impl Frames {
         }
     }
 
-    /// Sets a name that the current frame doesn't have, in that frame, or gives the value back
-    /// where it has the name, or where the name may mean something else.
+    /// Sets a name with neither a colon nor a close parenthesis that the current frame doesn't have,
+    /// in that frame, or gives the value back where it has the name.
+    #[inline(always)]
     fn insert_near(
         &mut self,
         alloc: Global,
-        name: &VariableName,
+        name: &Text,
         value: Value,
     ) -> Result<Option<Value>, AllocError>
+        requires { is_simple name.now ≡ true }
         ensures ok { IfOk result
             (λ left. MatchOption left (after_set self.old name.now value ≡ Ok self.new)
             (λ v. (v ≡ value) × (self.new ≡ self.old))) }
         ensures unchanged { OnErr result (self.new ≡ self.old) }
     {
-        if !name.is_simple() {
-            return Ok(Some(value));
-        }
         let level = self.level();
         let frame = &mut self.frames[level];
         frame.insert_near(alloc, name, value)
+    }
+
+    /// Sets a name with neither a colon nor a close parenthesis, in less time where the current
+    /// frame doesn't have it.
+    ///
+    /// # Errors
+    /// Want of memory; refusals 232, 233 (of setting) and 238.
+    fn set_simple(&mut self, alloc: Global, name: &Text, value: Value) -> Result<(), FrameError>
+        requires { is_simple name.now ≡ true }
+        ensures ok { OnOk result (after_set self.old name.now value ≡ Ok self.new) }
+        ensures err { IfErr result (λ e. Refuses e (after_set self.old name.now value)) }
+        ensures unchanged { OnErr result (self.new ≡ self.old) }
+    {
+        match self.insert_near(alloc, name, value)? {
+            None => Ok(()),
+            Some(value) => self.set(alloc, name, value),
+        }
     }
 
     /// Sets a name, as [`Frames::set`] does.
@@ -181,9 +200,29 @@ impl Frames {
         ensures err { IfErr result (λ e. Refuses e (after_set self.old name.now value)) }
         ensures unchanged { OnErr result (self.new ≡ self.old) }
     {
-        match self.insert_near(alloc, name, value)? {
-            None => Ok(()),
-            Some(value) => self.set(alloc, name.text(), value),
+        if name.is_simple() {
+            return self.set_simple(alloc, name.text(), value);
         }
+        self.set(alloc, name.text(), value)
+    }
+
+    /// The same of a name whose kind isn't known yet, as that of a parameter.
+    ///
+    /// # Errors
+    /// Want of memory; refusals 232, 233 (of setting) and 238.
+    pub fn set_parameter(
+        &mut self,
+        alloc: Global,
+        name: &Text,
+        value: Value,
+    ) -> Result<(), FrameError>
+        ensures ok { OnOk result (after_set self.old name.now value ≡ Ok self.new) }
+        ensures err { IfErr result (λ e. Refuses e (after_set self.old name.now value)) }
+        ensures unchanged { OnErr result (self.new ≡ self.old) }
+    {
+        if is_simple(name.as_str()) {
+            return self.set_simple(alloc, name, value);
+        }
+        self.set(alloc, name, value)
     }
 }

@@ -17,7 +17,7 @@ invariant_of-self c =
     let as' = reverse c.self.inside.aside.items in
     let n = c.level-level.result in
     let f = c.index_mut-frame.result.now in
-    let simple = sym c.is_simple.ensures ∙ c.if-not-is_simple.false in
+    let simple = c.requires in
     let at = slice_get_read fs (length fs) n f refl (below fs as' c.args.self.now c.self.view_is n c.level-level.ensures c.self.invariant.0) c.index_mut-frame.ensures.value in
     inserted_sound fs as' n c.args.name.now c.args.value f c.insert_near.new.self c.insert_near.result at c.insert_near.ensures.ok (vec_capacity c.self.inside.frames) simple (c.level-level.ensures ∙ sym (ap (λ (s : Chain). current s.frames) c.self.view_is)) c.insert_near.ensures.unchanged c.self.invariant
 
@@ -27,7 +27,7 @@ returns-clause-ok c =
     let as' = reverse c.self.inside.aside.items in
     let n = c.level-level.result in
     let f = c.index_mut-frame.result.now in
-    let simple = sym c.is_simple.ensures ∙ c.if-not-is_simple.false in
+    let simple = c.requires in
     let is = c.level-level.ensures in
     let at = slice_get_read fs (length fs) n f refl (below fs as' c.args.self.now c.self.view_is n is c.self.invariant.0) c.index_mut-frame.ensures.value in
     inserted_near fs as' n c.args.name.now c.args.value f c.insert_near.new.self c.insert_near.result at c.insert_near.ensures.ok c.args.self.now c.self.view_is simple is
