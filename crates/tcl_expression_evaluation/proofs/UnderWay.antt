@@ -1,5 +1,5 @@
 -- Step after step.
-use Rattle.std.proofs.Common.{◌≡◌, ◌∙◌, sym, ap, subst, refl, ℕ, ◌+◌, ◌≤◌, ◌<◌, List, [], ◌∷◌, ◌++◌, length, drop, get_or, ℤ, FitsSigned, w64, Bool, true, false, nat_le, arith, Option, Some, None, Result, Ok, Err, IfSome, option_to_list}
+use Rattle.std.proofs.Common.{◌≡◌, ◌∙◌, sym, ap, subst, refl, ℕ, suc, ◌+◌, ◌≤◌, ◌<◌, List, [], ◌∷◌, ◌++◌, length, drop, get_or, ℤ, FitsSigned, w64, Bool, true, false, nat_eq, nat_le, arith, Option, Some, None, Result, Ok, Err, IfSome, option_to_list}
 use Rattle.std.specs.Result.{result_ok}
 use Rattle.std.specs.Fmt.{signed_decimal}
 use Rattle.tcl_text.specs.declared.integer.Integers.{Integers}
@@ -23,8 +23,8 @@ use Rattle.tcl_expr.specs.declared.tree.Node.{Node}
 use Rattle.tcl_expr.specs.declared.tree.Node.TheVariants as node
 use Rattle.tcl_expression_evaluation.specs.Computations.{Computation, substitute, operand, and_then}
 use Rattle.tcl_expression_evaluation.specs.Steps.{doing, goes, from, top, below}
-use Rattle.tcl_expression_evaluation.proofs.Going.{done_at, done_past, goes_doing}
-use Rattle.tcl_expression_evaluation.specs.AtHand.{comes_to, given, text_read, variable_value, short_text, ReadAs, Brings, IsNumberAtHand, IsNumberFrom, steps_behind}
+use Rattle.tcl_expression_evaluation.proofs.Going.{done_at, done_past, goes_doing, goes_nil}
+use Rattle.tcl_expression_evaluation.specs.AtHand.{comes_to, given, text_read, variable_value, short_text, ReadAs, Brings, IsNumberAtHand, IsNumberFrom, Leaves, steps_before, steps_of_two}
 use Rattle.tcl_expression_evaluation.proofs.Waiting.{none_wait, pushed, popped}
 
 -- ## Steps
@@ -144,21 +144,50 @@ one_waits style text n reads = pushed style [] [] text n (none_wait style [] ref
 pub first_waits : (style : Integers) (text : Bytes) (n : ℤ) (none all : List ℤ) → none ≡ [] → all ≡ none ++ n ∷ [] → int_of style text ≡ Ok n → ReadAs style (text ∷ []) all
 first_waits style text n none all is pushes reads = subst (ReadAs style (text ∷ [])) (sym (pushes ∙ ap (λ ns. ns ++ n ∷ []) is)) (one_waits style text n reads)
 
-with_read : (frames : Levels) (style : Integers) (r : Leaf) (o : BinaryOperator) (a b : Bytes) (x y n : ℤ) → int_of style a ≡ Ok x →
-    ((next : Bytes → Computation) → comes_to frames (operand r next) ≡ comes_to frames (next b)) → int_of style b ≡ Ok y → FitsSigned w64 n →
-    ((style : Integers) (a b : Bytes) → int_of style a ≡ Ok x → int_of style b ≡ Ok y → apply_binary style o a b ≡ Ok (signed_decimal n)) → IsNumberFrom frames style (a ∷ []) (steps_behind r o) n
-with_read frames style r o a b x y n reads right reads' fits made =
-    let code = steps_behind r o in
-    let u = begins frames style (a ∷ []) code (x ∷ []) (one_waits style a x reads) in
-    let v = goes_on frames style (a ∷ []) code 0 (node.Operand r) (x ∷ []) (x ∷ []) (x ∷ y ∷ []) y u (omega (arith)) refl (λ texts wait. brought frames style r texts (x ∷ []) b y wait right reads') refl in
-    let w = goes_on frames style (a ∷ []) code 1 (node.Binary o) (x ∷ y ∷ []) [] (n ∷ []) n v (omega (arith)) refl (λ texts wait. two_gone frames style o texts (x ∷ y ∷ []) (x ∷ []) [] x y n wait refl refl fits made) refl in
-    end frames style (a ∷ []) code 2 (n ∷ []) [] n w (omega (arith)) refl
+leaves : (frames : Levels) (style : Integers) (r : Leaf) (o : BinaryOperator) (a b : Bytes) (x y n : ℤ) → int_of style a ≡ Ok x →
+    ((next : Bytes → Computation) → comes_to frames (operand r next) ≡ comes_to frames (next b)) → int_of style b ≡ Ok y →
+    ((style : Integers) (a b : Bytes) → int_of style a ≡ Ok x → int_of style b ≡ Ok y → apply_binary style o a b ≡ Ok (signed_decimal n)) → Leaves frames style a r o n
+leaves frames style r o a b x y n reads right reads' made = λ rest.
+    ap (comes_to frames) (goes_doing style (node.Operand r) (node.Binary o ∷ rest) (a ∷ [])) ∙ right (λ v. goes style (node.Binary o ∷ rest) doing (a ∷ v ∷ []))
+    ∙ ap (comes_to frames) (goes_doing style (node.Binary o) rest (a ∷ b ∷ [])) ∙ ap (λ r. comes_to frames (and_then r (λ v. goes style rest doing (v ∷ [])))) (made style a b reads reads')
 
 pub computed_with : (found : Option ℤ) (frames : Levels) (style : Integers) (r : Leaf) (o : BinaryOperator) (a b : Bytes) (x y : ℤ) → int_of style a ≡ Ok x →
-    ((next : Bytes → Computation) → comes_to frames (operand r next) ≡ comes_to frames (next b)) → int_of style b ≡ Ok y → IfSome found (λ n. FitsSigned w64 n) →
-    IfSome found (λ n. (style : Integers) (a b : Bytes) → int_of style a ≡ Ok x → int_of style b ≡ Ok y → apply_binary style o a b ≡ Ok (signed_decimal n)) → IfSome found (λ n. IsNumberFrom frames style (a ∷ []) (steps_behind r o) n)
-computed_with (Some n) frames style r o a b x y reads right reads' fits made = with_read frames style r o a b x y n reads right reads' fits made
-computed_with None frames style r o a b x y reads right reads' fits made = tt
+    ((next : Bytes → Computation) → comes_to frames (operand r next) ≡ comes_to frames (next b)) → int_of style b ≡ Ok y →
+    IfSome found (λ n. (style : Integers) (a b : Bytes) → int_of style a ≡ Ok x → int_of style b ≡ Ok y → apply_binary style o a b ≡ Ok (signed_decimal n)) → IfSome found (λ n. Leaves frames style a r o n)
+computed_with (Some n) frames style r o a b x y reads right reads' made = leaves frames style r o a b x y n reads right reads' made
+computed_with None frames style r o a b x y reads right reads' made = tt
+
+-- from behind the first text to the rest of the steps, before which a number waits
+pub record Along (frames : Levels) (style : Integers) (first : Bytes) (code rest : List Node) (n : ℤ) : Type 0 where
+  pub text : Bytes
+  pub reads : int_of style text ≡ Ok n
+  pub same : comes_to frames (from style code 0 (first ∷ [])) ≡ comes_to frames (from style rest 0 (text ∷ []))
+
+pub along : (frames : Levels) (style : Integers) (first : Bytes) (code : List Node) (n : ℤ) → int_of style first ≡ Ok n → Along frames style first code code n
+along frames style first code n reads = record { text = first; reads = reads; same = refl }
+
+pub along_on : (frames : Levels) (style : Integers) (first : Bytes) (code rest more : List Node) (r : Leaf) (o : BinaryOperator) (x n : ℤ) → Along frames style first code rest x → rest ≡ steps_before r o more → FitsSigned w64 n →
+    ((text : Bytes) → int_of style text ≡ Ok x → Leaves frames style text r o n) → Along frames style first code more n
+along_on frames style first code rest more r o x n u is fits h = record {
+  text = signed_decimal n;
+  reads = int_of-number style n fits;
+  same = u.same ∙ ap (λ c. comes_to frames (from style c 0 (u.text ∷ []))) is ∙ h u.text u.reads more;
+}
+
+pub steps_shorter : (rest more : List Node) (r : Leaf) (o : BinaryOperator) → rest ≡ steps_before r o more → length more < length rest
+steps_shorter rest more r o is = let same : length rest ≡ suc (suc (length more)) = ap length is in omega (arith, same)
+
+pub none_left : (rest : List Node) (t : Bool) → t ≡ nat_eq (length rest) 0 → t ≡ true → rest ≡ []
+none_left [] t e h = refl
+none_left (n ∷ rest) t e h = absurd (grind (arith, nat_tests))
+
+pub along_all : (frames : Levels) (style : Integers) (first : Bytes) (code rest : List Node) (n : ℤ) → Along frames style first code rest n → rest ≡ [] → IsNumberFrom frames style (first ∷ []) code n
+along_all frames style first code rest n u is = (u.text, u.same ∙ ap (λ c. comes_to frames (from style c 0 (u.text ∷ []))) is ∙ ap (comes_to frames) (goes_nil style doing (u.text ∷ [])), u.reads)
+
+pub along_then : (found : Option ℤ) (frames : Levels) (style : Integers) (first : Bytes) (code rest : List Node) (x : ℤ) → Along frames style first code rest x →
+    ((text : Bytes) → int_of style text ≡ Ok x → IfSome found (λ n. IsNumberFrom frames style (text ∷ []) rest n)) → IfSome found (λ n. IsNumberFrom frames style (first ∷ []) code n)
+along_then (Some n) frames style first code rest x u h = let m = h u.text u.reads in (m.0, u.same ∙ m.1, m.2)
+along_then None frames style first code rest x u h = tt
 
 -- ## Steps behind a first operand
 
@@ -171,6 +200,13 @@ pub some_behind : (found : Option ℤ) (frames : Levels) (style : Integers) (l :
     IfSome found (λ n. IsNumberFrom frames style (a ∷ []) rest n) → IfSome found (λ n. IsNumberAtHand frames style (node.Operand l ∷ rest) n)
 some_behind (Some n) frames style l rest a left h = behind frames style l rest a n left h
 some_behind None frames style l rest a left h = tt
+
+-- two operands and an operator
+pub two_computed : (found : Option ℤ) (frames : Levels) (style : Integers) (l r : Leaf) (o : BinaryOperator) (a : Bytes) → ((next : Bytes → Computation) → comes_to frames (operand l next) ≡ comes_to frames (next a)) →
+    IfSome found (λ n. FitsSigned w64 n) → IfSome found (λ n. Leaves frames style a r o n) → IfSome found (λ n. IsNumberAtHand frames style (steps_of_two l o r) n)
+two_computed (Some n) frames style l r o a left fits h =
+    behind frames style l (steps_before r o []) a n left (signed_decimal n, h [] ∙ ap (comes_to frames) (goes_nil style doing (signed_decimal n ∷ [])), int_of-number style n fits)
+two_computed None frames style l r o a left fits h = tt
 
 -- a first operand that is substituted, and the rest of the steps behind it
 pub first_substituted : (style : Integers) (word : WordRead) (rest : List Node) → from style (node.Operand (Substituted word) ∷ rest) 0 [] ≡ substitute word (λ v. from style rest 0 (v ∷ []))

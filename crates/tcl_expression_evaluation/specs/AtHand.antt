@@ -2,6 +2,7 @@
 -- holds a value.
 use Rattle.std.specs.Prelude.{◌≡◌, Bool, true, false, nat_le, length, List, [], ◌∷◌, ◌++◌, ℤ}
 use Rattle.std.specs.Prelude.{Option, Some, None, Result, Ok, Err}
+use Rattle.std.specs.Fmt.{signed_decimal}
 use Rattle.tcl_text.specs.declared.integer.Integers.{Integers}
 use Rattle.tcl_parser.specs.declared.script.Part.{Part}
 use Rattle.tcl_parser.specs.declared.script.Part.TheVariants.{Variable}
@@ -62,9 +63,19 @@ abbrev pub steps_of_two : Leaf → BinaryOperator → Leaf → List Node
 steps_of_two left operator right =
     node.Operand left ∷ node.Operand right ∷ node.Binary operator ∷ []
 
--- the steps of such an expression behind its first operand
-abbrev pub steps_behind : Leaf → BinaryOperator → List Node
-steps_behind right operator = node.Operand right ∷ node.Binary operator ∷ []
+-- steps that begin with an operand
+abbrev pub begins_with : Leaf → List Node → List Node
+begins_with operand rest = node.Operand operand ∷ rest
+
+-- steps that begin with an operand and the operator that takes it second
+abbrev pub steps_before : Leaf → BinaryOperator → List Node → List Node
+steps_before right operator rest = node.Operand right ∷ node.Binary operator ∷ rest
+
+-- Where such steps come behind a text, those that follow find the number n in its place.
+abbrev pub Leaves : Levels → Integers → Bytes → Leaf → BinaryOperator → ℤ → Type 0
+Leaves frames style text right operator n = (rest : List Node) →
+    comes_to frames (from style (steps_before right operator rest) 0 (text ∷ []))
+    ≡ comes_to frames (from style rest 0 (signed_decimal n ∷ []))
 
 -- each text reads as the number at its place
 unfoldable pub ReadAs : Integers → List Bytes → List ℤ → Type 0

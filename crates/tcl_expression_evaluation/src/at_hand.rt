@@ -8,8 +8,8 @@ ghost use Rattle.tcl_value.specs.Reading.{int_of};
 ghost use Rattle.tcl_expression_evaluation.specs.Apply.{apply_unary, apply_binary};
 ghost use Rattle.tcl_expression_evaluation.specs.Computations.{Computation, operand};
 ghost use Rattle.tcl_expression_evaluation.specs.AtHand.{comes_to, IsNumberAtHand, steps_of_two};
-ghost use Rattle.tcl_expression_evaluation.specs.AtHand.{IsNumberFrom, steps_behind};
-ghost use Rattle.tcl_expression_evaluation.specs.AtHand.{ReadAs, Brings};
+ghost use Rattle.tcl_expression_evaluation.specs.AtHand.{IsNumberFrom, ReadAs, Brings, Leaves};
+ghost use Rattle.tcl_expression_evaluation.specs.AtHand.{begins_with, steps_before};
 
 use crate::apply::{compute, holds};
 use crate::kind::{Arithmetic, Kind, kind_of};
@@ -36,7 +36,7 @@ pub fn number_at_hand(frames: &Frames, style: Integers, tree: &ExprTree) -> Opti
     if let Some((left, operator, right)) = operator_between(nodes) {
         return number_of_two(frames, style, left, operator, right);
     }
-    number_of_steps(frames, style, nodes, ArrayVec::new())
+    number_of_more(frames, style, nodes)
 }
 
 /// The number that these steps come to behind a value that waits for its operator already, where
@@ -47,12 +47,7 @@ pub fn number_from(frames: &Frames, style: Integers, first: &Value, rest: &[Node
     ensures { IfSome result
         (λ n. IsNumberFrom frames.now.frames style (first.now ∷ []) rest.now n) }
 {
-    if let Some((right, operator)) = operator_behind(rest) {
-        return number_with(frames, style, first, operator, right);
-    }
-    let mut waiting = ArrayVec::<i64, MOST_WAITING>::new();
-    waiting.push(first.int(style).ok()?);
-    number_of_steps(frames, style, rest, waiting)
+    number_along(frames, style, first.int(style).ok()?, rest)
 }
 
 /// Whether steps behind a first operand may come to a number at hand. A hint, of which contracts
@@ -92,15 +87,29 @@ fn operator_between(nodes: &[Node]) -> Option<(&Leaf, BinaryOperator, &Leaf)>
     }
 }
 
-/// The second operand and the operator that the steps are, if they are no more.
-fn operator_behind(nodes: &[Node]) -> Option<(&Leaf, BinaryOperator)>
-    ensures { IfSome result (λ found. nodes.now ≡ steps_behind found.0.now found.1) }
+/// The operand and the operator that steps begin with, and the steps behind them.
+fn operator_before(nodes: &[Node]) -> Option<(&Leaf, BinaryOperator, &[Node])>
+    ensures { IfSome result (λ found.
+        nodes.now ≡ steps_before found.0.now found.1 found.2.now) }
 {
-    let [second, third] = nodes else {
+    let [second, third, rest @ ..] = nodes else {
         return None;
     };
     match (second, third) {
-        (Node::Operand(right), Node::Binary(operator)) => Some((right, *operator)),
+        (Node::Operand(right), Node::Binary(operator)) => Some((right, *operator, rest)),
+        _ => None,
+    }
+}
+
+/// The operand that steps begin with, and the steps behind it.
+fn operand_before(nodes: &[Node]) -> Option<(&Leaf, &[Node])>
+    ensures { IfSome result (λ found. nodes.now ≡ begins_with found.0.now found.1.now) }
+{
+    let [first, rest @ ..] = nodes else {
+        return None;
+    };
+    match first {
+        Node::Operand(leaf) => Some((leaf, rest)),
         _ => None,
     }
 }
@@ -116,23 +125,62 @@ fn number_of_two(
     ensures { IfSome result (λ n. IsNumberAtHand frames.now.frames style
         (steps_of_two left.now operator right.now) n) }
 {
-    number_with(frames, style, value_at_hand(frames, left)?, operator, right)
+    let number = value_at_hand(frames, left)?.int(style).ok()?;
+    number_with(frames, style, number, operator, right)
 }
 
-/// The number that an operator makes of a value that waits for it and of an operand, where that
-/// reads as a number and this is a number at hand.
+/// The number that steps of any number come to, the first of which is an operand.
+#[inline(never)]
+fn number_of_more(frames: &Frames, style: Integers, nodes: &[Node]) -> Option<i64>
+    ensures { IfSome result (λ n. IsNumberAtHand frames.now.frames style nodes.now n) }
+{
+    let (first, rest) = operand_before(nodes)?;
+    number_from(frames, style, value_at_hand(frames, first)?, rest)
+}
+
+/// The number that steps come to behind a number that waits. As long as an operand and an operator
+/// come next, it becomes the operator's number; where something else comes, it waits with others.
+#[inline(always)]
+fn number_along(frames: &Frames, style: Integers, first: i64, nodes: &[Node]) -> Option<i64>
+    ensures { (text : Bytes) → int_of style text ≡ Ok first → IfSome result
+        (λ n. IsNumberFrom frames.now.frames style (text ∷ []) nodes.now n) }
+{
+    let mut number = first;
+    let mut rest = nodes;
+    'links: while let Some((right, operator, more)) = operator_before(rest) {
+        number = number_with(frames, style, number, operator, right)?;
+        rest = more;
+    }
+    if rest.is_empty() {
+        return Some(number);
+    }
+    number_among(frames, style, number, rest)
+}
+
+/// The same, whatever comes next.
+#[inline(never)]
+fn number_among(frames: &Frames, style: Integers, first: i64, nodes: &[Node]) -> Option<i64>
+    ensures { (text : Bytes) → int_of style text ≡ Ok first → IfSome result
+        (λ n. IsNumberFrom frames.now.frames style (text ∷ []) nodes.now n) }
+{
+    let mut waiting = ArrayVec::<i64, MOST_WAITING>::new();
+    waiting.push(first);
+    number_of_steps(frames, style, nodes, waiting)
+}
+
+/// The number that an operator makes of a number that waits for it and of an operand, where this is
+/// a number at hand.
 #[inline(always)]
 fn number_with(
     frames: &Frames,
     style: Integers,
-    left: &Value,
+    x: i64,
     operator: BinaryOperator,
     right: &Leaf,
 ) -> Option<i64>
-    ensures { IfSome result (λ n. IsNumberFrom frames.now.frames style (left.now ∷ [])
-        (steps_behind right.now operator) n) }
+    ensures { (text : Bytes) → int_of style text ≡ Ok x → IfSome result
+        (λ n. Leaves frames.now.frames style text right.now operator n) }
 {
-    let x = left.int(style).ok()?;
     let y = value_at_hand(frames, right)?.int(style).ok()?;
     apply_to_numbers(operator, x, y)
 }
