@@ -1,10 +1,14 @@
 //! `dict`.
-ghost use Rattle.std.specs.Prelude.{◌≡◌};
+ghost use Rattle.std.specs.Prelude.{◌≡◌, ◌∷◌, IfSome};
+ghost use Rattle.tcl_core.specs.Endings.{ok};
 ghost use Rattle.tcl_core.specs.Paths.{Path};
+ghost use Rattle.tcl_core.specs.Programs.Prog.{done};
 ghost use Rattle.tcl_language.specs.Changes as changes;
 ghost use Rattle.tcl_language.specs.Data as collections;
+ghost use Rattle.tcl_language.specs.Pairing as pairing;
 ghost use Rattle.tcl_run.specs.Plain.{Acts};
 ghost use Rattle.tcl_run.specs.Runs.{IsLevel};
+ghost use Rattle.tcl_text.specs.declared.integer.Integers.{Integers as Style};
 ghost use Rattle.tcl_tree.specs.TreeOf.{Names};
 ghost use Rattle.tcl_words.specs.Outcomes.{Gives};
 ghost use Rattle.tcl_commands.specs.Subcommands.{outcome_of};
@@ -91,5 +95,35 @@ pub fn dict(
                 None => dict_of_words(tree, alloc, place, args),
             }
         }
+    }
+}
+
+/// What a subcommand gives for its words that asks a dict for something, if it is one of those and
+/// refuses none of them.
+fn asked_of_dict(alloc: Global, subcommand: &Value, words: &[Value]) -> Option<Value>
+    ensures { IfSome result (λ value. (style : Style) →
+        pairing.dict style (subcommand.now ∷ words.now) ≡ done (ok value)) }
+{
+    if subcommand.is_text(b"get") {
+        return get(alloc, words).ok();
+    }
+    if subcommand.is_text(b"exists") {
+        return exists(alloc, words).ok();
+    }
+    if subcommand.is_text(b"size") {
+        return size(alloc, words).ok();
+    }
+    None
+}
+
+/// What `dict` gives for its words, where its subcommand asks a dict for something, as `get` does,
+/// and refuses none of them. Nothing is changed.
+pub fn dict_answer(alloc: Global, args: &[Value]) -> Option<Value>
+    ensures { IfSome result (λ value. (style : Style) →
+        pairing.dict style args.now ≡ done (ok value)) }
+{
+    match args {
+        [subcommand, words @ ..] => asked_of_dict(alloc, subcommand, words),
+        [] => None,
     }
 }

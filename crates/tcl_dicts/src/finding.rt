@@ -64,6 +64,9 @@ fn get_at(alloc: Global, value: &Value, keys: &[Value]) -> Result<Value, Refusal
 pub fn get(alloc: Global, words: &[Value]) -> Result<Value, Refusal>
     ensures { Gives (λ value. value) result (get_of words.now) }
 {
+    if let [value, key] = words {
+        return at_key(alloc, value, key);
+    }
     let (value, keys) = first_and_rest(alloc, words, "dict get dictionary ?key ...?")?;
     get_at(alloc, value, keys)
 }

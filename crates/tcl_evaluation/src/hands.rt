@@ -16,10 +16,12 @@ ghost use Rattle.tcl_evaluation.specs.Hands.{one_of};
 use std::alloc::{AllocError, Global};
 use tcl_calls::expressions::{expression_of_words, number_at};
 use tcl_calls::lookup::builtin_named;
+use tcl_commands::dicts::dict_answer;
 use tcl_commands::texts::string_value;
 use tcl_frames::frames::Frames;
-use tcl_lists::commands::{llength, lrange};
+use tcl_lists::commands::{list, llength, lrange};
 use tcl_lists::indexes::lindex;
+use tcl_lists::joining::concat;
 use tcl_prepared::kinds::BracketKind;
 use tcl_prepared::prepared::{Bracket, Prepared, PreparedCommand, PreparedPart, PreparedWord};
 use tcl_run::steps::{frames_seen, known_short};
@@ -244,7 +246,8 @@ pub fn sum_at_hand(tree: &Tree, alloc: Global, place: Place, script: &Prepared) 
     Some(known_short(Value::from_int(number)))
 }
 
-/// What a command that asks a list or a text for something gives, if it is one of those.
+/// What a command gives that makes something of its words alone, if it is one of those and refuses
+/// none of them.
 fn answer_of(alloc: Global, style: Integers, builtin: Builtin, args: &[Value]) -> Option<Value>
     ensures { IfSome result (λ value. IsAnswer style builtin args.now value) }
 {
@@ -252,12 +255,15 @@ fn answer_of(alloc: Global, style: Integers, builtin: Builtin, args: &[Value]) -
         Builtin::Llength => llength(alloc, args).ok(),
         Builtin::Lindex => lindex(alloc, style, args).ok(),
         Builtin::Lrange => lrange(alloc, style, args).ok(),
+        Builtin::List => list(alloc, args).ok(),
+        Builtin::Concat => concat(alloc, args).ok(),
+        Builtin::Dict => dict_answer(alloc, args),
         Builtin::String => string_value(alloc, style, args).ok(),
         _ => None,
     }
 }
 
-/// The same of one to three words that are at hand over these frames.
+/// The same of one to four words that are at hand over these frames.
 fn answer_of_words(
     frames: &Frames,
     alloc: Global,
@@ -285,12 +291,19 @@ fn answer_of_words(
             let c = value_at_hand(frames, alloc, third)?;
             answer_of(alloc, style, builtin, &[a, b, c])
         }
+        [first, second, third, fourth] => {
+            let a = value_at_hand(frames, alloc, first)?;
+            let b = value_at_hand(frames, alloc, second)?;
+            let c = value_at_hand(frames, alloc, third)?;
+            let d = value_at_hand(frames, alloc, fourth)?;
+            answer_of(alloc, style, builtin, &[a, b, c, d])
+        }
         _ => None,
     }
 }
 
-/// The result of a script that is one command that asks a list or a text for something, where its
-/// words are at hand. Nothing is counted: [`count_sum`](crate::sums::count_sum) does that.
+/// The result of a script that is one command that makes something of its words alone, where these
+/// are at hand. Nothing is counted: [`count_sum`](crate::sums::count_sum) does that.
 fn answer_at_hand(tree: &Tree, alloc: Global, place: Place, script: &Prepared) -> Option<Value>
     ensures { IfSome result (λ value. IsAnsweredIn tree.now place script.now value) }
 {

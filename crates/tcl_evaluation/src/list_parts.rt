@@ -21,12 +21,23 @@ use tcl_tree::tree::{Place, Tree};
 use tcl_value::list_part::ListPart;
 use tcl_value::value::Value;
 
+/// Whether a script is one `lrange`, by the name. A hint, of which contracts say nothing.
+fn is_lrange(script: &Prepared) -> bool {
+    let [PreparedCommand::AtHand(words)] = script.commands() else {
+        return false;
+    };
+    match words.as_slice() {
+        [PreparedWord::Literal(name), _, _, _] => name.is_text(b"lrange"),
+        _ => false,
+    }
+}
+
 /// Whether a word may be a part of a list that is at hand. A hint, of which contracts say nothing.
 #[inline]
 pub(crate) fn may_be_part(word: &PreparedWord) -> bool {
     match word {
         PreparedWord::Lone(PreparedPart::Bracket(bracket)) => {
-            matches!(bracket.kind(), BracketKind::Answer)
+            matches!(bracket.kind(), BracketKind::Answer) && is_lrange(bracket.script())
         }
         _ => false,
     }

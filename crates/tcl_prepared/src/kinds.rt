@@ -11,7 +11,7 @@ const MOST_WORDS: usize = 4;
 pub enum BracketKind {
     /// The script is one `expr` of one word that stands for itself.
     Sum,
-    /// It is one command that asks a list or a text for something, with plain words.
+    /// It is one command that makes something of its words alone, which are plain.
     Answer,
     /// It is evaluated.
     Other,
@@ -45,12 +45,23 @@ fn names_expr(word: &Value) -> bool {
     word.is_text(b"expr")
 }
 
-/// Whether a word names a command that asks a list or a text for something.
-fn names_question(word: &Value) -> bool {
+/// Whether a word names a command that makes something of its words alone: of lists, or of texts.
+fn names_answer(word: &Value) -> bool {
     word.is_text(b"lindex")
         || word.is_text(b"llength")
         || word.is_text(b"lrange")
+        || word.is_text(b"list")
+        || word.is_text(b"concat")
         || word.is_text(b"string")
+}
+
+/// Whether these are the words of a `dict` whose subcommand asks a dict for something.
+fn ask_of_dict(name: &Value, args: &[PreparedWord]) -> bool {
+    let [PreparedWord::Literal(word), ..] = args else {
+        return false;
+    };
+    name.is_text(b"dict")
+        && (word.is_text(b"get") || word.is_text(b"exists") || word.is_text(b"size"))
 }
 
 /// Whether a word names a command that changes the variable that its first word names.
@@ -93,6 +104,20 @@ pub(crate) fn change_one_variable(words: &[Value]) -> bool {
     }
 }
 
+/// The kind of a script in brackets that is one command with these words, which may be at hand.
+fn kind_of_words(words: &[PreparedWord]) -> BracketKind {
+    let [PreparedWord::Literal(name), args @ ..] = words else {
+        return BracketKind::Other;
+    };
+    if !args.iter().all(is_plain) {
+        return BracketKind::Other;
+    }
+    if names_answer(name) || ask_of_dict(name, args) {
+        return BracketKind::Answer;
+    }
+    BracketKind::Other
+}
+
 /// The kind of a script in brackets.
 pub(crate) fn kind_of(script: &Prepared) -> BracketKind {
     let [command] = script.commands() else {
@@ -103,11 +128,7 @@ pub(crate) fn kind_of(script: &Prepared) -> BracketKind {
             [name, _] if names_expr(name) => BracketKind::Sum,
             _ => BracketKind::Other,
         },
-        PreparedCommand::AtHand(words) => match words.as_slice() {
-            [PreparedWord::Literal(name), args @ ..]
-                if names_question(name) && args.iter().all(is_plain) => { BracketKind::Answer }
-            _ => BracketKind::Other,
-        },
+        PreparedCommand::AtHand(words) => kind_of_words(words.as_slice()),
         PreparedCommand::General(_) => BracketKind::Other,
     }
 }
