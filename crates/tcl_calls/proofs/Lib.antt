@@ -8,6 +8,7 @@ mod Telling
 mod Hosted
 mod Handling
 mod Keeping
+mod Settling
 mod Kept
 mod Levelling
 mod KeptNames

@@ -1,7 +1,7 @@
 -- How loops over lists are read, and how their variables are set.
-use Rattle.std.proofs.Common.{◌≡◌, ℕ, zero, suc, ◌+◌, ◌-◌, ◌*◌, ◌<◌, ◌≤◌, ◌%◌, ◌⊎◌, inl, inr, true, false, List, [], ◌∷◌, ◌++◌, take, drop, get_or, length, refl, sym, ◌∙◌, ap, subst, arith}
-use Rattle.std.specs.Prelude.{Result, Ok, Err, IsOkAnd, ◌&&◌, ◌==◌}
-use Rattle.std.proofs.lemmas.Bool.Decides.{nat_tests}
+use Rattle.std.proofs.Common.{◌≡◌, ℕ, zero, suc, ◌+◌, ◌-◌, ◌*◌, ◌<◌, ◌≤◌, ◌%◌, ◌⊎◌, inl, inr, Bool, true, false, cond, List, [], ◌∷◌, ◌++◌, take, drop, get_or, length, append-nil, refl, sym, ◌∙◌, ap, subst, arith}
+use Rattle.std.specs.Prelude.{Result, Ok, Err, IsOkAnd, IsTrue, not, leb, ◌&&◌, ◌||◌, ◌==◌}
+use Rattle.std.proofs.lemmas.Bool.Decides.{nat_tests, eqb_tells, leb_tells}
 use Rattle.std.proofs.Math.Seq.{drop-cons, take-length}
 use Rattle.std.proofs.lemmas.List.{length-take-le}
 use Rattle.tcl_core.specs.Endings.{Reply}
@@ -16,11 +16,15 @@ use Rattle.tcl_run.specs.Ends.{IsFailure, failing, itself}
 use Rattle.tcl_value.specs.Dicts.{Pairs}
 use Rattle.tcl_value.specs.Texts.{flat}
 use Rattle.tcl_text.specs.Lists.{list_of}
-use Rattle.tcl_text.specs.Writing.{fault_message}
+use Rattle.tcl_text.specs.Writing.{fault_message, fits_braces, has_special, in_form, written, written_list}
+use Rattle.tcl_text.specs.declared.list_writing.Form.{Form}
+use Rattle.tcl_text.specs.declared.list_writing.Form.TheVariants.{Plain, Braced, Escaped}
+use Rattle.tcl_text.proofs.Spellings.{list_from}
+use Rattle.tcl_text.proofs.Writings.{written_spells}
 use Rattle.tcl_text.specs.declared.list.ListFault.{ListFault}
 use Rattle.tcl_language.specs.Variables.{is_odd, sets}
 use Rattle.tcl_language.proofs.Counting.{odd_is}
-use Rattle.tcl_calls.specs.Walks.{whole, walks_at, IsNoLoop, MisreadsEntry, MisreadsWalk, ReadsWalk}
+use Rattle.tcl_calls.specs.Walks.{whole, walks_at, Alone, IsNoLoop, MisreadsEntry, MisreadsWalk, ReadsWalk}
 use Rattle.tcl_calls.specs.Words.{EndsBy}
 use Rattle.tcl_calls.specs.declared.walks.Walk as read
 
@@ -170,3 +174,61 @@ dict_loop_none (x ∷ y ∷ []) k h = refl
 dict_loop_none (x ∷ y ∷ z ∷ []) k (inl h) = absurd (omega arith)
 dict_loop_none (x ∷ y ∷ z ∷ []) k (inr h) = absurd (omega arith)
 dict_loop_none (x ∷ y ∷ z ∷ w ∷ ws) k h = refl
+
+-- ## A word that is a list of itself alone
+
+plain_form : (t u : Bool) (f : Form) (x : Text) → t ≡ false → u ≡ false → in_form (cond (t || u) f Plain) u x ≡ x
+plain_form true u f x h k = absurd (cc)
+plain_form false true f x h k = absurd (cc)
+plain_form false false f x h k = refl
+
+plain_written : (b : ℕ) (s : Text) → has_special (b ∷ s) ≡ false → (b == 35) ≡ false → written true (b ∷ s) ≡ b ∷ s
+unfolding written
+plain_written b s h k = plain_form (has_special (b ∷ s)) (b == 35) (cond (fits_braces (b ∷ s)) Braced Escaped) (b ∷ s) h k
+
+word_alone : (x : Text) → 1 ≤ length x → (get_or x 0 0 == 35) ≡ false → has_special x ≡ false → list_of x ≡ Ok (x ∷ [])
+word_alone [] l k h = absurd (omega arith)
+word_alone (b ∷ s) l k h =
+    let same : b ∷ s ≡ written_list ((b ∷ s) ∷ []) = sym (append-nil (b ∷ s)) ∙ ap (λ (z : Text). z ++ []) (sym (plain_written b s h k)) in
+    ap list_of same ∙ list_from ((b ∷ s) ∷ []) (written_list ((b ∷ s) ∷ [])) (written_spells ((b ∷ s) ∷ []))
+
+not_so : (b : Bool) → IsTrue (not b) → b ≡ false
+not_so true h = absurd (cc)
+not_so false h = refl
+
+no_hash : (n : ℕ) → (n ≡ 35 → ⊥) → (((n == 35) ≡ true) × (n ≡ 35)) ⊎ (((n == 35) ≡ false) × (n ≡ 35 → ⊥)) → (n == 35) ≡ false
+no_hash n k (inl x) = absurd (k x.1)
+no_hash n k (inr x) = x.0
+
+-- a word that doesn't begin with `#`, and has no special byte
+pub word_told : (x bytes : Text) (special : Bool) → bytes ≡ x → 1 ≤ length bytes → (get_or bytes 0 0 ≡ 35 → ⊥) → special ≡ has_special x → IsTrue (not special) → list_of x ≡ Ok (x ∷ [])
+word_told x bytes special is l k e h =
+    word_alone x (subst (λ (y : Text). 1 ≤ length y) is l) (ap (λ (y : Text). get_or y 0 0 == 35) (sym is) ∙ no_hash (get_or bytes 0 0) k (eqb_tells (get_or bytes 0 0) 35)) (sym e ∙ not_so special h)
+
+-- ## One variable and one list
+
+none_behind : (elements : List Text) (n : ℕ) → length elements ≤ n → is_empty (drop n elements) ≡ true
+none_behind [] zero h = refl
+none_behind [] (suc n) h = refl
+none_behind (x ∷ xs) zero h = absurd (omega arith)
+none_behind (x ∷ xs) (suc n) h = none_behind xs n (omega arith)
+
+alone_over : (walks : List read.Walk) (name : Text) (elements : List Text) (turns : ℕ) → Alone walks name elements → is_over (walks_at turns walks) ≡ (is_empty (drop turns elements) && true)
+alone_over walks name elements turns is =
+    let one : turns * 1 ≡ turns = omega arith in
+    ap (λ (ws : List read.Walk). is_over (walks_at turns ws)) is ∙ ap (λ n. is_empty (drop n elements) && true) one
+
+alone_ends : (walks : List read.Walk) (name : Text) (elements : List Text) (turns : ℕ) → Alone walks name elements → length elements ≤ turns → true ≡ is_over (walks_at turns walks)
+alone_ends walks name elements turns is h = sym (alone_over walks name elements turns is ∙ ap (λ b. b && true) (none_behind elements turns h))
+
+alone_goes_on : (walks : List read.Walk) (name : Text) (elements : List Text) (turns : ℕ) → Alone walks name elements → turns < length elements → false ≡ is_over (walks_at turns walks)
+alone_goes_on walks name elements turns is h = sym (alone_over walks name elements turns is ∙ ap (λ b. b && true) (more_left elements turns h))
+
+alone_by : (walks : List read.Walk) (name : Text) (elements : List Text) (turns : ℕ) → Alone walks name elements → ((leb (length elements) turns ≡ true) × (length elements ≤ turns)) ⊎ ((leb (length elements) turns ≡ false) × (turns < length elements))
+    → leb (length elements) turns ≡ is_over (walks_at turns walks)
+alone_by walks name elements turns is (inl x) = x.0 ∙ alone_ends walks name elements turns is x.1
+alone_by walks name elements turns is (inr x) = x.0 ∙ alone_goes_on walks name elements turns is x.1
+
+pub alone_test : (walks : List read.Walk) (name : Text) (elements : List Text) (turns n : ℕ) → Alone walks name elements → n ≡ length elements → leb n turns ≡ is_over (walks_at turns walks)
+alone_test walks name elements turns n is e =
+    ap (λ m. leb m turns) e ∙ alone_by walks name elements turns is (leb_tells (length elements) turns)

@@ -6,6 +6,8 @@ use Rattle.tcl_core.specs.Paths.{Text}
 use Rattle.tcl_core.specs.Programs.Prog.{done}
 use Rattle.tcl_expr.specs.Expressions.{expression_of}
 use Rattle.tcl_expr.specs.Trees.{Tree}
+use Rattle.tcl_expr.specs.declared.operator.BinaryOperator.{BinaryOperator}
+use Rattle.tcl_expression_evaluation.specs.Apply.{apply_binary}
 use Rattle.tcl_expression_evaluation.specs.Computations.{Computation, value, refused, substitute}
 use Rattle.tcl_expression_evaluation.specs.Computations.{computation_of, final}
 use Rattle.tcl_expression_evaluation.specs.Steps.{from}
@@ -35,6 +37,11 @@ OperatorTells (error.Fault f) i = Interrupts i (λ e. e ≡ Completed (failing (
 -- an expression whose value is this is over
 abbrev pub settles : Integers → Text → Program
 settles style v = or_fails message_of (final style v) (λ result. done (ok result))
+
+-- an expression of an operator and of two operands with these values is over
+abbrev pub settles_two : Integers → BinaryOperator → Text → Text → Program
+settles_two style operator x y = or_fails message_of (apply_binary style operator x y)
+    (settles style)
 
 -- a computation ends in a refusal
 abbrev pub IsRefused : Computation → Reply → Type 0

@@ -15,5 +15,6 @@ pub mod Words
 pub mod Asking
 pub mod Listing
 pub mod Looking
+pub mod LoopNames
 pub mod Naming
 pub mod Telling

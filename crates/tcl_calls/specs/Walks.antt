@@ -69,3 +69,7 @@ ReadsDictLoop args ws body = (k : List Walk → Text → Program) →
 
 abbrev pub MisreadsDictLoop : List Text → Reply → Type 0
 MisreadsDictLoop args e = (k : List Walk → Text → Program) → EndsBy (dict_loop args k) e
+
+-- a loop has one variable, and one list
+abbrev pub Alone : List read.Walk → Text → List Text → Type 0
+Alone ws name elements = ws ≡ record { names = name ∷ []; elements = elements } ∷ []

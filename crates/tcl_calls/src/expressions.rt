@@ -15,15 +15,17 @@ ghost use Rattle.tcl_run.specs.Ends.{Gave, IfEnded, Interrupts, IsFailure};
 ghost use Rattle.tcl_tree.specs.Own.{Own};
 ghost use Rattle.tcl_tree.specs.TreeOf.{tree_of, Names};
 ghost use Rattle.tcl_calls.specs.Expressions.{GivesPart, IsKept, IsNearer, OperatorTells, settles};
+ghost use Rattle.tcl_calls.specs.Expressions.{settles_two};
 ghost use Rattle.tcl_calls.specs.Words.{EndsBy};
 
 use crate::scripts::{hand_place, is_full_word, script_of};
 use std::alloc::Global;
 use std::rc::Rc;
 use tcl_expr::fault::ExprError;
+use tcl_expr::operator::BinaryOperator;
 use tcl_expr::tree::ExprTree;
-use tcl_expression_evaluation::apply::truth_of;
-use tcl_expression_evaluation::at_hand::number_at_hand;
+use tcl_expression_evaluation::apply::{apply_binary, truth_of};
+use tcl_expression_evaluation::at_hand::{number_at_hand, number_of_values};
 use tcl_expression_evaluation::evaluation::{Evaluation, Progress};
 use tcl_expression_evaluation::fault::ApplyError;
 use tcl_expression_evaluation::result::final_value;
@@ -164,6 +166,41 @@ pub fn settle(alloc: Global, style: Integers, value: Value) -> Result<Value, Int
     match final_value(value, style) {
         Ok(settled) => Ok(settled),
         Err(fault) => Err(operator_failure(alloc, ApplyError::Fault(fault))),
+    }
+}
+
+/// What an expression of an operator and of two operands comes to, of which these are the values.
+pub fn settle_two(
+    alloc: Global,
+    style: Integers,
+    operator: BinaryOperator,
+    left: Value,
+    right: Value,
+) -> Result<Value, Interruption>
+    ensures { IfEnded result (EndsBy (settles_two style operator left right)) }
+{
+    if let Some(number) = number_of_values(operator, &left, &right, style) {
+        return Ok(Value::from_int(number));
+    }
+    settle_applied(alloc, style, operator, left, right)
+}
+
+/// The same, whatever the values read as.
+#[inline(never)]
+fn settle_applied(
+    alloc: Global,
+    style: Integers,
+    operator: BinaryOperator,
+    left: Value,
+    right: Value,
+) -> Result<Value, Interruption>
+    ensures { IfEnded result (EndsBy (settles_two style operator left right)) }
+{
+    let mut left = left;
+    let mut right = right;
+    match apply_binary(alloc, operator, &mut left, &mut right, style) {
+        Ok(value) => settle(alloc, style, value),
+        Err(error) => Err(operator_failure(alloc, error)),
     }
 }
 

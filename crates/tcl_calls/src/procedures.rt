@@ -27,7 +27,6 @@ ghost use Rattle.tcl_calls.specs.Procedures.{IsBoundTo, TooLongBound, Enters, st
 use std::alloc::{AllocError, Global};
 use tcl_frames::fault::FrameError;
 use tcl_frames::frames::Frames;
-use tcl_frames::variable_name::VariableName;
 use tcl_lists::commands::list;
 use tcl_run::failure::{refused, wrong_args};
 use tcl_run::interruption::Interruption;
@@ -96,8 +95,7 @@ fn bind_word(
     ensures short { OnOk result (fits word.now ≡ true) }
     ensures memory { IfErr result (λ i. i ≡ Memory) }
 {
-    let name = VariableName::new(name.clone()?);
-    match frames.set_new(alloc, &name, known_short(word.clone()?)) {
+    match frames.set_parameter(alloc, name, known_short(word.clone()?)) {
         Ok(()) => Ok(()),
         Err(FrameError::Fault(_)) => Ok(()),
         Err(FrameError::Memory) => Err(Interruption::Memory),

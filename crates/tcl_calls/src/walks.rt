@@ -1,31 +1,21 @@
 //! The lists that loops walk through.
-ghost use Rattle.std.specs.Prelude.{
-  ◌≡◌,
-  ◌+◌,
-  ◌*◌,
-  ◌<◌,
-  [],
-  ◌∷◌,
-  false,
-  drop,
-  get_or,
-  length,
-  IfOk,
-  IfErr,
-};
+ghost use Rattle.std.specs.Prelude.{◌≡◌, ◌+◌, ◌*◌, ◌<◌, ◌==◌, [], ◌∷◌, false, drop, get_or, length};
+ghost use Rattle.std.specs.Prelude.{Ok, IfOk, IfErr, IfSome, IsTrue};
 ghost use Rattle.std.specs.Prelude.{MatchOption, MatchResult, IsOkAnd};
 ghost use Rattle.tcl_core.specs.Paths.{Path};
 ghost use Rattle.tcl_language.specs.Control.{is_over, sets_names, sets_walks};
-ghost use Rattle.tcl_language.specs.Variables.{is_odd};
+ghost use Rattle.tcl_language.specs.Variables.{is_odd, sets};
 ghost use Rattle.tcl_dicts.specs.Dicts as dicts;
+ghost use Rattle.tcl_text.specs.Lists.{list_of};
+ghost use Rattle.tcl_text.specs.Writing.{fault_message, is_special, has_special};
 ghost use Rattle.tcl_value.specs.Texts.{flat};
-ghost use Rattle.tcl_run.specs.Ends.{Interrupts, IsFailure, itself};
+ghost use Rattle.tcl_run.specs.Ends.{Gave, Interrupts, IsFailure, itself};
 ghost use Rattle.tcl_run.specs.Plain.{Steps};
 ghost use Rattle.tcl_run.specs.Runs.{IsLevel};
 ghost use Rattle.tcl_tree.specs.TreeOf.{Names};
 ghost use Rattle.tcl_calls.specs.Walks.{walks_at, IsLoop, IsNoLoop, MisreadsWalk, MisreadsWalks};
 ghost use Rattle.tcl_calls.specs.Walks.{ReadsWalk, ReadsWalks, ReadsEntry, MisreadsEntry};
-ghost use Rattle.tcl_calls.specs.Walks.{ReadsDictLoop, MisreadsDictLoop};
+ghost use Rattle.tcl_calls.specs.Walks.{ReadsDictLoop, MisreadsDictLoop, Alone};
 
 use crate::setting::set_variable;
 use std::alloc::{AllocError, Global};
@@ -35,6 +25,7 @@ use tcl_frames::variable_name::VariableName;
 use tcl_run::failure::{refused, wrong_args};
 use tcl_run::interruption::Interruption;
 use tcl_run::steps::{read_list, variable_name};
+use tcl_text::text::Text;
 use tcl_tree::tree::{Place, Tree};
 use tcl_value::list::List;
 use tcl_value::value::Value;
@@ -49,7 +40,14 @@ const DICT_FOR: &str = "dict for {keyVar valueVar} dictionary body";
 /// The names of the variables that a loop sets, which contracts see as their texts. Each keeps
 /// where its variable was found last.
 pub struct VariableNames {
-    names: Vec<VariableName>,
+    names: NameList,
+}
+
+/// How they are kept: one that is a word by itself takes no allocation.
+#[derive(Drop)]
+enum NameList {
+    One(VariableName),
+    Several(Vec<VariableName>),
 }
 
 impl Drop for VariableNames {
@@ -60,13 +58,23 @@ impl Drop for VariableNames {
 
 impl Model for VariableNames {
     ghost use Rattle.std.specs.Prelude.{List, ℕ};
+    ghost use Rattle.tcl_calls.specs.LoopNames.{names_in};
 
     ghost Value = { List (List ℕ) };
 
-    ghost view = { λ a. a.names.items };
+    ghost view = { λ a. names_in a.names };
 }
 
 impl VariableNames {
+    /// This name alone.
+    fn one(name: VariableName) -> VariableNames
+        ensures { result ≡ name ∷ [] }
+    {
+        VariableNames {
+            names: NameList::One(name),
+        }
+    }
+
     /// The names that the elements of a list are.
     fn new(alloc: Global, list: &List) -> Result<VariableNames, AllocError>
         ensures { IfOk result (λ made. made ≡ list.now) }
@@ -77,14 +85,19 @@ impl VariableNames {
             let word = list.get(index)?;
             names.push(variable_name(alloc, &word)?)?;
         }
-        Ok(VariableNames { names })
+        Ok(VariableNames {
+            names: NameList::Several(names),
+        })
     }
 
     /// How many there are.
     fn len(&self) -> usize
         ensures { result ≡ length self.now }
     {
-        self.names.len()
+        match &self.names {
+            NameList::One(_) => 1,
+            NameList::Several(names) => names.len(),
+        }
     }
 
     /// The name at an index.
@@ -92,7 +105,21 @@ impl VariableNames {
         requires { index < length self.now }
         ensures { result.now ≡ get_or self.now index result.now }
     {
-        &self.names[index]
+        match &self.names {
+            NameList::One(name) => name,
+            NameList::Several(names) => &names[index],
+        }
+    }
+
+    /// The name that is the only one, where it is known to be that.
+    #[inline]
+    fn only(&self) -> Option<&VariableName>
+        ensures { IfSome result (λ name. self.now ≡ name.now ∷ []) }
+    {
+        match &self.names {
+            NameList::One(name) => Some(name),
+            NameList::Several(_) => None,
+        }
     }
 }
 
@@ -130,6 +157,58 @@ fn element_at(list: &List, turns: usize, count: usize, more: usize) -> Result<Va
     Ok(Value::empty())
 }
 
+/// Whether a byte is special where lists are written.
+fn is_special(byte: u8) -> bool
+    ensures { result ≡ is_special byte }
+{
+    matches!(
+        byte,
+        b'\t'..=b'\r' | b' ' | b'{' | b'}' | b'[' | b']' | b'$' | b';' | b'"' | b'\\'
+    )
+}
+
+/// Whether some byte of a text is special where lists are written.
+fn has_special(text: &str) -> bool
+    ensures { result ≡ has_special text.now }
+{
+    text.as_bytes().iter().any(|byte| is_special(*byte))
+}
+
+/// Whether a text is a word as most names are, which is a list of itself alone: it isn't empty,
+/// doesn't begin with `#`, and no byte is special.
+fn is_word(text: &str) -> bool
+    ensures { IsTrue result → list_of text.now ≡ Ok (text.now ∷ []) }
+{
+    match text.as_bytes() {
+        [] => false,
+        [first, ..] => *first != b'#' && !has_special(text),
+    }
+}
+
+/// The text of a word that is a list of itself alone, where that is told without reading it as a
+/// list.
+fn only_element(word: &Value) -> Option<&Text>
+    ensures { IfSome result (λ text. list_of word.now ≡ Ok (text.now ∷ [])) }
+{
+    let text = word.as_text()?;
+    if is_word(text.as_str()) {
+        return Some(text);
+    }
+    None
+}
+
+/// The names that a word is, read as a list.
+fn read_names(alloc: Global, word: &Value) -> Result<VariableNames, Interruption>
+    ensures { Gave fault_message (list_of word.now) result }
+{
+    if let Some(text) = only_element(word) {
+        return Ok(VariableNames::one(VariableName::new(text.clone()?)));
+    }
+    let mut word = word.clone()?;
+    let list = read_list(alloc, &mut word)?;
+    Ok(VariableNames::new(alloc, &list)?)
+}
+
 /// Reads two words as a walk.
 fn read_walk(
     alloc: Global,
@@ -141,14 +220,12 @@ fn read_walk(
     ensures refused { IfErr result
         (λ i. Interrupts i (MisreadsWalk form.now names.now elements.now)) }
 {
-    let mut names = names.clone()?;
-    let names = read_list(alloc, &mut names)?;
+    let names = read_names(alloc, names)?;
     let mut elements = elements.clone()?;
     let elements = read_list(alloc, &mut elements)?;
-    if names.is_empty() {
+    if names.len() == 0 {
         return Err(wrong_args(alloc, form));
     }
-    let names = VariableNames::new(alloc, &names)?;
     Ok(Walk { names, elements })
 }
 
@@ -227,9 +304,21 @@ fn read_dict(alloc: Global, dict: &Value) -> Result<List, Interruption>
     }
 }
 
-/// Whether no list has elements left after so many turns.
+/// The variable and the list of a loop that has one of each, as most loops do.
+#[inline]
+fn only_walk(walks: &[Walk]) -> Option<(&VariableName, &List)>
+    ensures { IfSome result (λ x. Alone walks.now x.0.now x.1.now) }
+{
+    let [walk] = walks else {
+        return None;
+    };
+    let name = walk.names.only()?;
+    Some((name, &walk.elements))
+}
+
+/// Whether none of these lists has elements left after so many turns.
 #[inline(never)]
-pub fn is_over(walks: &[Walk], turns: usize) -> bool
+fn are_over(walks: &[Walk], turns: usize) -> bool
     ensures { result ≡ is_over (walks_at turns walks.now) }
 {
     'walks: for walk in walks {
@@ -238,6 +327,17 @@ pub fn is_over(walks: &[Walk], turns: usize) -> bool
         }
     }
     true
+}
+
+/// Whether no list has elements left after so many turns.
+#[inline]
+pub fn is_over(walks: &[Walk], turns: usize) -> bool
+    ensures { result ≡ is_over (walks_at turns walks.now) }
+{
+    match only_walk(walks) {
+        Some((_, list)) => list.len() <= turns,
+        None => are_over(walks, turns),
+    }
 }
 
 /// Sets the variables of a walk to the elements that come next after so many turns, and to the
@@ -267,6 +367,61 @@ fn set_walk(
     Ok(())
 }
 
+/// Sets the variables of each of these walks for the turn after so many, from the left.
+///
+/// # Errors
+/// Why the first that can't be set can't; want of memory.
+#[inline(never)]
+fn set_each(
+    tree: &mut Tree,
+    alloc: Global,
+    place: Place,
+    walks: &[Walk],
+    turns: usize,
+) -> Result<(), Interruption>
+    requires { (p : Path) × Names tree.old place p }
+    ensures set { Steps tree.old place
+        (λ k. sets_walks (walks_at turns walks.now) (λ rest. k)) tree.new result }
+    ensures level { IsLevel tree.old tree.new }
+{
+    'walks: for walk in walks {
+        set_walk(tree, alloc, place, walk, turns)?;
+    }
+    Ok(())
+}
+
+/// The element at an index; the empty text where there is none.
+#[inline]
+fn element_or_empty(list: &List, index: usize) -> Result<Value, AllocError>
+    ensures { IfOk result (λ value. value ≡ get_or list.now index []) }
+{
+    if index < list.len() {
+        return list.get(index);
+    }
+    Ok(Value::empty())
+}
+
+/// Sets the variable of a loop that has one, and one list, for the turn after so many.
+///
+/// # Errors
+/// Why it can't be set; want of memory.
+#[inline]
+fn set_only(
+    tree: &mut Tree,
+    alloc: Global,
+    place: Place,
+    name: &VariableName,
+    list: &List,
+    turns: usize,
+) -> Result<(), Interruption>
+    requires { (p : Path) × Names tree.old place p }
+    ensures set { Steps tree.old place (sets name.now (get_or list.now turns [])) tree.new result }
+    ensures level { IsLevel tree.old tree.new }
+{
+    let value = element_or_empty(list, turns)?;
+    set_variable(tree, alloc, place, name, value)
+}
+
 /// Sets the variables of a loop's walks for the turn after so many, from the left. (foreach(n))
 ///
 /// # Errors
@@ -284,8 +439,8 @@ pub fn set_walks(
         (λ k. sets_walks (walks_at turns walks.now) (λ rest. k)) tree.new result }
     ensures level { IsLevel tree.old tree.new }
 {
-    'walks: for walk in walks {
-        set_walk(tree, alloc, place, walk, turns)?;
+    match only_walk(walks) {
+        Some((name, list)) => set_only(tree, alloc, place, name, list, turns),
+        None => set_each(tree, alloc, place, walks, turns),
     }
-    Ok(())
 }

@@ -1,4 +1,4 @@
--- What setting a variable to a part of a list comes to.
+-- What setting a variable to what is derived from a value comes to.
 use Rattle.std.proofs.Common.{◌≡◌, [], ◌∷◌, Some, sym, ap, subst, ◌∙◌}
 use Rattle.std.specs.Prelude.{Result, Ok, Err, MatchResult}
 use Rattle.tcl_core.specs.Endings.{Reply, ok}

@@ -14,6 +14,7 @@ pub mod Changed
 pub mod Changes
 pub mod Exiting
 pub mod Kinds
+pub mod Derived
 pub mod Named
 pub mod Subcommands
 pub mod Setting

@@ -11,7 +11,7 @@ ghost use Rattle.tcl_commands.specs.Named.{builtin_of, words_of};
 ghost use Rattle.tcl_commands.specs.Sums.{added_words};
 ghost use Rattle.tcl_interpreter.specs.declared.builtin.Builtin.TheVariants as name;
 
-use crate::cutting::set_part;
+use crate::derivation::{Derived, set_derived};
 use crate::growing::{Growth, grow_variable, raise_variable};
 use crate::steps::set_variable_near;
 use std::alloc::Global;
@@ -19,7 +19,6 @@ use tcl_frames::variable_name::VariableName;
 use tcl_run::interruption::Interruption;
 use tcl_tree::builtin::Builtin;
 use tcl_tree::tree::{Place, Tree};
-use tcl_value::list_part::ListPart;
 use tcl_value::value::Value;
 
 /// A command that changes a variable, with its words behind the variable's name.
@@ -27,9 +26,9 @@ use tcl_value::value::Value;
 pub enum VariableChange {
     /// `set varName newValue`.
     Set(Value),
-    /// `set varName newValue`, where the value is a part of a list. One that is longer than a value
-    /// may be is answered as want of memory is: [`ListPart::is_within`] tells that before.
-    Part(ListPart),
+    /// `set varName newValue`, where the value is derived from another one, which may be what the
+    /// variable holds.
+    Derived(Derived),
     /// `incr varName ?increment?` by a number at hand, or by 1 where there is none.
     Raise(Option<i64>),
     /// `incr varName increment`.
@@ -175,7 +174,7 @@ pub fn change_variable(
 {
     match change {
         VariableChange::Set(value) => set(tree, alloc, place, name, value),
-        VariableChange::Part(part) => set_part(tree, alloc, place, name, part),
+        VariableChange::Derived(derived) => set_derived(tree, alloc, place, name, derived),
         VariableChange::Raise(by) => raise(tree, alloc, place, name, by),
         VariableChange::Incr(by) => incr(tree, alloc, place, name, by),
         VariableChange::Append(value) => append(tree, alloc, place, name, value),

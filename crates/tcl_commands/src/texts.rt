@@ -97,13 +97,23 @@ fn character_at(alloc: Global, style: Integers, text: &Value, at: &Value) -> Res
     Ok(answer_value(answer))
 }
 
-/// How many characters a text has.
+/// How many characters a text has, as a value.
+fn count_of(alloc: Global, text: &str) -> Result<Value, Refusal>
+    ensures { Gives (λ value. value) result (length_of (text.now ∷ [])) }
+{
+    let answer = count_answer(alloc, character_count(text))?;
+    Ok(answer_value(answer))
+}
+
+/// How many characters a value's text has. The text is counted where it is kept.
 fn characters_in(alloc: Global, text: &Value) -> Result<Value, Refusal>
     ensures { Gives (λ value. value) result (length_of (text.now ∷ [])) }
 {
-    let text = text.text(alloc)?;
-    let answer = count_answer(alloc, character_count(text.as_str()))?;
-    Ok(answer_value(answer))
+    if let Some(kept) = text.as_text() {
+        return count_of(alloc, kept.as_str());
+    }
+    let written = text.text(alloc)?;
+    count_of(alloc, written.as_str())
 }
 
 /// What `string` gives of two words, for whose texts no list is made.

@@ -11,6 +11,7 @@ mod Levelling
 mod Looping
 mod Plainly
 mod Requesting
+mod TwoOperands
 mod Staying
 mod Targets
 mod Walking

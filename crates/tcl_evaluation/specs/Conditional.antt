@@ -5,9 +5,11 @@ use Rattle.tcl_core.specs.Endings.Reply.{Completed}
 use Rattle.tcl_core.specs.Paths.{Path}
 use Rattle.tcl_core.specs.Runs.{Ending}
 use Rattle.tcl_core.specs.Trees.{Tree}
+use Rattle.tcl_expr.specs.declared.token.Leaf.{Leaf}
 use Rattle.tcl_expr.specs.declared.tree.ExprTree.{ExprTree}
+use Rattle.tcl_expression_evaluation.specs.Computations.{Computation, operand}
 use Rattle.tcl_language.specs.Control.{after_body}
-use Rattle.tcl_language.specs.Expressions.{expression, condition, turn}
+use Rattle.tcl_language.specs.Expressions.{computed, expression, condition, turn}
 use Rattle.tcl_language.specs.Instructions.{Program}
 use Rattle.tcl_run.specs.Language.{language}
 use Rattle.tcl_run.specs.Ends.{IfRan}
@@ -31,6 +33,23 @@ ComputesTo ways old o place kept new z e = (p : Path) (style : Integers) → IsA
 abbrev pub Computes : {S : Type 0} → Ways S → Table → S → Place → ExprTree → Table → S →
     Result (List ℕ) Interruption → Type 0
 Computes ways old o place kept new z result = IfRan result (ComputesTo ways old o place kept new z)
+
+-- An operand has this value: what is computed with it goes on from there.
+abbrev pub OperandGoes : {S : Type 0} → Ways S → Table → S → Place → Leaf → Table → S → List ℕ →
+    Type 0
+OperandGoes {S} ways old o place leaf new z v = (p : Path) (style : Integers) →
+    IsAt old place p style → (next : List ℕ → Computation) (k : List ℕ → Program) (V : Tree Own)
+    (y : S) (e : Ending) →
+    Proceeds ways (language style) (tree_of new) z p (computed (next v) k) V y e →
+    Proceeds ways (language style) (tree_of old) o p (computed (operand leaf next) k) V y e
+
+-- It ended what was to be computed.
+abbrev pub OperandBreaks : {S : Type 0} → Ways S → Table → S → Place → Leaf → Table → S → Ending →
+    Type 0
+OperandBreaks ways old o place leaf new z e = (p : Path) (style : Integers) →
+    IsAt old place p style → (next : List ℕ → Computation) (k : List ℕ → Program) →
+    Proceeds ways (language style) (tree_of old) o p (computed (operand leaf next) k) (tree_of new)
+    z e
 
 -- A condition that was read holds, or doesn't: what comes behind goes on from there.
 abbrev pub TestGoes : {S : Type 0} → Ways S → Table → S → Place → ExprTree → Table → S → Bool →

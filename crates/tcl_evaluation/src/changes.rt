@@ -11,8 +11,8 @@ ghost use Rattle.tcl_tree.specs.TreeOf.{tree_of, marks_of, Names};
 ghost use Rattle.tcl_evaluation.specs.Hands.{AllEnd, IsChangeIn};
 ghost use Rattle.tcl_evaluation.specs.Sums.{CallsBuiltin, CallsBuiltinAtHand};
 
+use crate::derivations::{derived_at_hand, may_be_derived};
 use crate::hands::end_at_hand;
-use crate::list_parts::{may_be_part, part_at_hand};
 use crate::sums::count_first;
 use std::alloc::Global;
 use tcl_calls::lookup::builtin_named;
@@ -26,24 +26,25 @@ use tcl_tree::builtin::Builtin;
 use tcl_tree::tree::{Place, Tree};
 use tcl_value::value::Value;
 
-/// The `set` of a variable to a part of a list, if the command is `set` and the word behind the
-/// variable's name is a part of one. The script in brackets isn't counted yet.
-fn part_change(
+/// The `set` of a variable to what is derived from a value, if the command is `set` and the word
+/// behind the variable's name is at hand so, and whether that is an answer in brackets, which isn't
+/// counted yet.
+fn derived_change(
     tree: &Tree,
     alloc: Global,
     place: Place,
     builtin: Builtin,
     word: &PreparedWord,
-) -> Option<VariableChange>
-    ensures command { IfSome result (λ change. builtin_of change ≡ builtin) }
-    ensures words { IfSome result (λ change. (p : Path) (n : core.Node Own) →
+) -> Option<(VariableChange, bool)>
+    ensures command { IfSome result (λ found. builtin_of found.0 ≡ builtin) }
+    ensures words { IfSome result (λ found. (p : Path) (n : core.Node Own) →
         Names tree.now place p → tree_of tree.now p ≡ Some n → AllEnd (marks_of tree.now).integers n
-        (seen_word word.now ∷ []) true (words_of change)) }
+        (seen_word word.now ∷ []) found.1 (words_of found.0)) }
 {
     match builtin {
         Builtin::Set => {
-            let part = part_at_hand(tree, alloc, place, word)?;
-            Some(VariableChange::Part(part))
+            let (derived, sums) = derived_at_hand(tree, alloc, place, word)?;
+            Some((VariableChange::Derived(derived), sums))
         }
         _ => None,
     }
@@ -62,14 +63,15 @@ fn change_by(builtin: Builtin, word: Value) -> Option<VariableChange>
     }
 }
 
-/// The change that a built-in command makes with these words behind the variable's name, where they
-/// are at hand and it changes a variable, and whether one of them is a sum or an answer in
+/// The change that a built-in command makes with these words behind this name of a variable, where
+/// they are at hand and it changes a variable, and whether one of them is a sum or an answer in
 /// brackets, which isn't counted yet.
 fn change_of_words(
     tree: &Tree,
     alloc: Global,
     place: Place,
     builtin: Builtin,
+    name: &VariableName,
     words: &[PreparedWord],
 ) -> Option<(VariableChange, bool)>
     ensures command { IfSome result (λ found. builtin_of found.0 ≡ builtin) }
@@ -83,9 +85,9 @@ fn change_of_words(
             _ => None,
         },
         [word] => {
-            if matches!(builtin, Builtin::Set) && may_be_part(word) {
-                if let Some(change) = part_change(tree, alloc, place, builtin, word) {
-                    return Some((change, true));
+            if may_be_derived(builtin, name, word) {
+                if let Some(found) = derived_change(tree, alloc, place, builtin, word) {
+                    return Some(found);
                 }
             }
             let (value, sums) = end_at_hand(tree, alloc, place, word)?;
@@ -123,7 +125,7 @@ pub(crate) fn change_at_hand<'a>(
     command.keeps_limit();
     let name = variable.name();
     let builtin = builtin_named(tree, place, command)?;
-    let (change, sums) = change_of_words(tree, alloc, place, builtin, rest)?;
+    let (change, sums) = change_of_words(tree, alloc, place, builtin, name, rest)?;
     Some((name, change, sums))
 }
 

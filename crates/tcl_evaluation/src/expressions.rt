@@ -1,6 +1,8 @@
 //! Expressions, and the commands with conditions.
 ghost use Rattle.std.specs.Option.{option_copied};
 ghost use Rattle.std.specs.Prelude.{◌≡◌, ◌∷◌, [], MatchResult};
+ghost use Rattle.tcl_expr.specs.declared.tree.ExprTree.{ExprTree as ReadExpression};
+ghost use Rattle.tcl_expression_evaluation.specs.AtHand.{steps_of_two};
 ghost use Rattle.tcl_language.specs.Expressions as expressions;
 ghost use Rattle.tcl_parser.specs.Reading.{read_script};
 ghost use Rattle.tcl_run.specs.Ends.{Breaks, OnCompletion};
@@ -10,13 +12,16 @@ ghost use Rattle.tcl_evaluation.specs.Conditional.{TurnBreaks};
 
 use crate::behind::{count_behind, number_behind};
 use crate::evaluation::{eval_read, eval_value};
-use crate::operands::eval_operand;
+use crate::operands::{eval_leaf, eval_operand};
 use std::alloc::Global;
 use tcl_calls::branches::{Branches, branches_of, one_branch};
-use tcl_calls::expressions::{holds, next_part, number_at, read_expression, settle};
+use tcl_calls::expressions::{holds, next_part, number_at, read_expression, settle, settle_two};
 use tcl_calls::scripts::{hand_place, script_of};
 use tcl_calls::turns::{goes_on, turns_on};
+use tcl_expr::operator::BinaryOperator;
+use tcl_expr::token::Leaf;
 use tcl_expr::tree::ExprTree;
+use tcl_expression_evaluation::at_hand::operator_between;
 use tcl_expression_evaluation::evaluation::{Evaluation, Progress};
 use tcl_prepared::prepared::Prepared;
 use tcl_run::failure::wrong_args;
@@ -33,7 +38,7 @@ use tcl_value::value::Value;
 /// 111 to 113 and 212 to 216 of the operands; those of what is substituted; want of memory.
 #[cycle(eval)]
 #[inline(never)]
-fn compute<O: Outside>(
+fn compute_parts<O: Outside>(
     tree: &mut Tree,
     alloc: Global,
     outside: &mut O,
@@ -59,6 +64,61 @@ fn compute<O: Outside>(
             Progress::Done(value) => return settle(alloc, style, value),
         }
     }
+}
+
+/// The value of an expression of two operands and an operator. The operands are substituted from
+/// left to right.
+///
+/// # Errors
+/// 111 to 113 and 212 to 216 of the operands; those of what is substituted; want of memory.
+#[cycle(eval)]
+#[inline(never)]
+fn compute_two<O: Outside>(
+    tree: &mut Tree,
+    alloc: Global,
+    outside: &mut O,
+    place: Place,
+    left: &Leaf,
+    operator: BinaryOperator,
+    right: &Leaf,
+) -> Result<Value, Interruption>
+    requires { IsRunning tree.old place }
+    ensures runs { (kept : ReadExpression) →
+        kept.nodes.items ≡ steps_of_two left.now operator right.now →
+        Computes (ways O.goes O.loses) tree.old outside.old place kept tree.new outside.new result }
+    ensures here { OnCompletion result (IsHere tree.old tree.new place) }
+    ensures keeps { Keeps O.entries_left tree.old tree.new outside.old outside.new }
+{
+    let style = tree.integers();
+    let first = eval_leaf(tree, alloc, outside, place, left)?;
+    let second = eval_leaf(tree, alloc, outside, place, right)?;
+    settle_two(alloc, style, operator, first, second)
+}
+
+/// The same of any expression that was read.
+///
+/// # Errors
+/// 111 to 113 and 212 to 216 of the operands; those of what is substituted; want of memory.
+#[cycle(eval)]
+fn compute<O: Outside>(
+    tree: &mut Tree,
+    alloc: Global,
+    outside: &mut O,
+    place: Place,
+    evaluation: &mut Evaluation,
+    kept: &ExprTree,
+) -> Result<Value, Interruption>
+    requires { IsRunning tree.old place }
+    ensures runs { Computes
+        (ways O.goes O.loses) tree.old outside.old place kept.now tree.new outside.new
+        result }
+    ensures here { OnCompletion result (IsHere tree.old tree.new place) }
+    ensures keeps { Keeps O.entries_left tree.old tree.new outside.old outside.new }
+{
+    if let Some((left, operator, right)) = operator_between(kept.nodes.as_slice()) {
+        return compute_two(tree, alloc, outside, place, left, operator, right);
+    }
+    compute_parts(tree, alloc, outside, place, evaluation, kept)
 }
 
 /// The same. Where all operands are numbers at hand, but for the first, which may be a sum or an

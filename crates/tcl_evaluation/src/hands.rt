@@ -1,5 +1,6 @@
 //! What is at hand: words, commands, and sums and answers in brackets.
-ghost use Rattle.std.specs.Prelude.{◌≡◌, ◌∷◌, [], true, false, List, map, Ok, IfOk, IfSome};
+ghost use Rattle.std.specs.Prelude.{◌≡◌, ◌≤◌, ◌∷◌, [], true, false, List, map, Ok, IfOk, IfSome};
+ghost use Rattle.std.specs.Prelude.{length};
 ghost use Rattle.tcl_core.specs.Paths.{Text};
 ghost use Rattle.tcl_commands.specs.Kinds.{is_plain};
 ghost use Rattle.tcl_language.specs.Instructions.{fits};
@@ -49,7 +50,7 @@ pub fn is_plain(builtin: Builtin) -> bool
 
 /// The room that a text has at first which is put together, in bytes, beside what is known of it:
 /// as much as the allocator of the C library gives at the least.
-const TEXT_ROOM: usize = 24;
+pub(crate) const TEXT_ROOM: usize = 24;
 
 /// Whether a part is a text or a variable.
 fn is_plain_part(part: &PreparedPart) -> bool {
@@ -80,22 +81,40 @@ fn room_for(frames: &Frames, parts: &[PreparedPart]) -> usize {
     }
 }
 
+/// The text that parts stand for over these frames, one behind the other, where each of them is a
+/// text or a variable of the current one, and it has no more bytes than these. The room is what it
+/// has at first, in bytes.
+pub(crate) fn text_at_hand(
+    frames: &Frames,
+    alloc: Global,
+    parts: &[PreparedPart],
+    room: usize,
+    most: usize,
+) -> Option<String>
+    ensures stands { IfSome result (λ text. PartsStand frames.now.frames (map seen_part parts.now)
+        (string_bytes text)) }
+    ensures short { IfSome result (λ text. length (string_bytes text) ≤ most) }
+{
+    if !parts.iter().all(is_plain_part) {
+        return None;
+    }
+    let mut text = String::with_capacity(alloc, room).ok()?;
+    'parts: for part in parts {
+        add_part(frames, alloc, part, &mut text)?;
+        if text.len() > most {
+            return None;
+        }
+    }
+    Some(text)
+}
+
 /// What parts stand for over these frames, one behind the other, where each of them is a text or a
 /// variable of the current one.
 fn parts_at_hand(frames: &Frames, alloc: Global, parts: &[PreparedPart]) -> Option<Value>
     ensures { IfSome result (λ value. PartsStand frames.now.frames (map seen_part parts.now)
         value) }
 {
-    if !parts.iter().all(is_plain_part) {
-        return None;
-    }
-    let mut text = String::with_capacity(alloc, room_for(frames, parts)).ok()?;
-    'parts: for part in parts {
-        add_part(frames, alloc, part, &mut text)?;
-        if text.len() > MOST_BYTES {
-            return None;
-        }
-    }
+    let text = text_at_hand(frames, alloc, parts, room_for(frames, parts), MOST_BYTES)?;
     Value::from_text(Text::from_string(alloc, text).ok()?).ok()
 }
 

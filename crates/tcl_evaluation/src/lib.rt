@@ -10,6 +10,7 @@ mod collecting;
 mod commands;
 mod control;
 pub mod crossing;
+mod derivations;
 mod entry_changes;
 pub mod evaluation;
 mod expressions;

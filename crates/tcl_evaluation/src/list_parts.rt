@@ -21,13 +21,14 @@ use tcl_tree::tree::{Place, Tree};
 use tcl_value::list_part::ListPart;
 use tcl_value::value::Value;
 
-/// Whether a script is one `lrange`, by the name. A hint, of which contracts say nothing.
-fn is_lrange(script: &Prepared) -> bool {
+/// Whether a script has the words of an `lrange`, of which the second is no literal: that would be
+/// the name of a subcommand, as of `string` or `dict`. A hint, of which contracts say nothing.
+fn may_be_lrange(script: &Prepared) -> bool {
     let [PreparedCommand::AtHand(words)] = script.commands() else {
         return false;
     };
     match words.as_slice() {
-        [PreparedWord::Literal(name), _, _, _] => name.is_text(b"lrange"),
+        [_, list, _, _] => !matches!(list, PreparedWord::Literal(_)),
         _ => false,
     }
 }
@@ -37,7 +38,7 @@ fn is_lrange(script: &Prepared) -> bool {
 pub(crate) fn may_be_part(word: &PreparedWord) -> bool {
     match word {
         PreparedWord::Lone(PreparedPart::Bracket(bracket)) => {
-            matches!(bracket.kind(), BracketKind::Answer) && is_lrange(bracket.script())
+            matches!(bracket.kind(), BracketKind::Answer) && may_be_lrange(bracket.script())
         }
         _ => false,
     }

@@ -9,7 +9,7 @@ ghost use Rattle.tcl_value.specs.Texts.{AllWithin};
 use crate::at_hand::{call_at_hand, call_known, call_named};
 use crate::changes::{call_change, call_change_on_hand, change_at_hand};
 use crate::commands::call;
-use crate::evaluation::{eval_lone_part, eval_word};
+use crate::evaluation::{eval_lone_part, eval_word, substitute};
 use std::alloc::Global;
 use tcl_calls::lookup::{Callee, builtin_named, callee_named};
 use tcl_calls::words::{Words, spread};
@@ -222,6 +222,35 @@ fn change_by_part<O: Outside>(
     change_to(tree, alloc, outside, place, command, variable, value)
 }
 
+/// The same of a word of several parts.
+///
+/// # Errors
+/// Those of the parts; 122; the stop 308; those of the call; want of memory.
+#[cycle(eval)]
+#[inline(never)]
+fn change_by_parts<O: Outside>(
+    tree: &mut Tree,
+    alloc: Global,
+    outside: &mut O,
+    place: Place,
+    command: &Value,
+    variable: &NameWord,
+    parts: &[PreparedPart],
+) -> Result<Value, Interruption>
+    requires { IsRunning tree.old place }
+    ensures runs { ProceedsIn (ways O.goes O.loses) tree.old outside.old place
+        (λ style. scripts.words (literal_word command.now ∷ literal_word variable.now ∷
+        record { parts = map seen_part parts.now; expand = false } ∷ []) []) tree.new outside.new
+        result }
+    ensures here { OnCompletion result (IsHere tree.old tree.new place) }
+    ensures keeps { Keeps O.entries_left tree.old tree.new outside.old outside.new }
+{
+    command.keeps_limit();
+    let _name = variable.name();
+    let value = on_ok(substitute(tree, alloc, outside, place, parts))?;
+    change_to(tree, alloc, outside, place, command, variable, value)
+}
+
 /// Substitutes a command's words from left to right, makes a step and calls it. They aren't
 /// gathered where only the last is to be evaluated and the one before it is to name a variable.
 ///
@@ -248,6 +277,17 @@ pub(crate) fn substitute_and_call<O: Outside>(
             if let PreparedWord::Name(variable) = second {
                 if let PreparedWord::Lone(part) = third {
                     return change_by_part(tree, alloc, outside, place, command, variable, part);
+                }
+                if let PreparedWord::Parts(parts) = third {
+                    return change_by_parts(
+                        tree,
+                        alloc,
+                        outside,
+                        place,
+                        command,
+                        variable,
+                        parts.as_slice(),
+                    );
                 }
             }
         }

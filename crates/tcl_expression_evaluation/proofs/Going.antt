@@ -8,11 +8,15 @@ use Rattle.tcl_expression_evaluation.specs.declared.fault.ApplyError.TheVariants
 use Rattle.tcl_parser.specs.Words.{WordRead}
 use Rattle.tcl_text.specs.declared.integer.Integers.{Integers}
 use Rattle.tcl_value.specs.Limits.{Bytes}
+use Rattle.tcl_expr.specs.declared.operator.BinaryOperator.{BinaryOperator}
 use Rattle.tcl_expr.specs.declared.operator.BinaryOperator.TheVariants as operator
+use Rattle.tcl_expr.specs.declared.token.Leaf.{Leaf}
 use Rattle.tcl_expr.specs.declared.tree.Node.{Node}
 use Rattle.tcl_expr.specs.declared.tree.Node.TheVariants as node
-use Rattle.tcl_expression_evaluation.specs.Computations.{Computation, value, substitute}
-use Rattle.tcl_expression_evaluation.specs.Steps.{Mode, doing, leaving, passed, does, goes, top, Acts, Advances}
+use Rattle.tcl_expression_evaluation.specs.Computations.{Computation, value, substitute, operand, and_then}
+use Rattle.tcl_expression_evaluation.specs.Apply.{apply_binary}
+use Rattle.tcl_expression_evaluation.specs.AtHand.{steps_of_two}
+use Rattle.tcl_expression_evaluation.specs.Steps.{Mode, doing, leaving, passed, does, goes, from, top, Acts, Advances}
 
 pub goes_nil : (style : Integers) (m : Mode) (s : List Bytes) → goes style [] m s ≡ value (top s)
 unfolding goes
@@ -81,3 +85,8 @@ one_more n d = omega arith
 pub nests : (n : Node) (d e : ℕ) → passed n d ≡ leaving e → e ≤ suc d
 unfolding deeper_of
 nests n d e h = omega (arith, ap deeper_of h, one_more n d)
+
+-- two operands and an operator, one after another
+pub two_steps : (style : Integers) (l r : Leaf) (o : BinaryOperator) → from style (steps_of_two l o r) 0 [] ≡ operand l (λ x. operand r (λ y. and_then (apply_binary style o x y) value))
+unfolding goes
+two_steps style l r o = refl

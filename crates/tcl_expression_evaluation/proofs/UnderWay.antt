@@ -157,6 +157,12 @@ pub computed_with : (found : Option ℤ) (frames : Levels) (style : Integers) (r
 computed_with (Some n) frames style r o a b x y reads right reads' made = leaves frames style r o a b x y n reads right reads' made
 computed_with None frames style r o a b x y reads right reads' made = tt
 
+-- two values that read as numbers
+pub values_applied : (found : Option ℤ) (style : Integers) (o : BinaryOperator) (a b : Bytes) (x y : ℤ) → int_of style a ≡ Ok x → int_of style b ≡ Ok y →
+    IfSome found (λ n. (style : Integers) (a b : Bytes) → int_of style a ≡ Ok x → int_of style b ≡ Ok y → apply_binary style o a b ≡ Ok (signed_decimal n)) → IfSome found (λ n. apply_binary style o a b ≡ Ok (signed_decimal n))
+values_applied (Some n) style o a b x y reads reads' made = made style a b reads reads'
+values_applied None style o a b x y reads reads' made = tt
+
 -- from behind the first text to the rest of the steps, before which a number waits
 pub record Along (frames : Levels) (style : Integers) (first : Bytes) (code rest : List Node) (n : ℤ) : Type 0 where
   pub text : Bytes

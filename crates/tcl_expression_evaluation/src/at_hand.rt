@@ -72,7 +72,7 @@ fn may_bring_number(step: &Node) -> bool {
 }
 
 /// The two operands and the operator that the steps are, if they are no more.
-fn operator_between(nodes: &[Node]) -> Option<(&Leaf, BinaryOperator, &Leaf)>
+pub fn operator_between(nodes: &[Node]) -> Option<(&Leaf, BinaryOperator, &Leaf)>
     ensures { IfSome result (λ found.
         nodes.now ≡ steps_of_two found.0.now found.1 found.2.now) }
 {
@@ -85,6 +85,23 @@ fn operator_between(nodes: &[Node]) -> Option<(&Leaf, BinaryOperator, &Leaf)>
         }
         _ => None,
     }
+}
+
+/// The number that an operator makes of two values, where both read as numbers, and it computes
+/// with numbers or compares them. None wherever that isn't found so, as with texts: `apply_binary`
+/// tells what comes of them then. This takes no memory.
+pub fn number_of_values(
+    operator: BinaryOperator,
+    left: &Value,
+    right: &Value,
+    style: Integers,
+) -> Option<i64>
+    ensures { IfSome result (λ n.
+        apply_binary style operator left.now right.now ≡ Ok (signed_decimal n)) }
+{
+    let first = left.int(style).ok()?;
+    let second = right.int(style).ok()?;
+    apply_to_numbers(operator, first, second)
 }
 
 /// The operand and the operator that steps begin with, and the steps behind them.

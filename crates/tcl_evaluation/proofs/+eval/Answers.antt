@@ -79,7 +79,8 @@ use Rattle.tcl_evaluation.proofs.Targets.{asks_nobody, calls_untold, settled_mor
 -- (of expressions and the commands with conditions)
 use Rattle.std.proofs.Common.{◌⊎◌, inl, inr, ◌<◌, get_or}
 use Rattle.std.specs.Option.{option_copied}
-use Rattle.tcl_expression_evaluation.specs.Computations.{value, substitute}
+use Rattle.tcl_expr.specs.declared.token.Leaf.{Leaf}
+use Rattle.tcl_expression_evaluation.specs.Computations.{value, substitute, operand}
 use Rattle.tcl_expression_evaluation.specs.Steps.{from}
 use Rattle.tcl_language.specs.Control.{after_body}
 use Rattle.tcl_language.specs.Expressions.{after_next, branches_of, computed, expr, expression, first_true, if_first}
@@ -90,7 +91,7 @@ use Rattle.tcl_expression_evaluation.specs.Messages.{message_of as operator_mess
 use Rattle.tcl_run.proofs.Proceeding.{charges, charge_refused, goes_done, goes_on}
 use Rattle.tcl_calls.specs.BranchesRead.{alone, branch_of, seen, tests_of}
 use Rattle.tcl_calls.specs.declared.branches.Branch.{Branch}
-use Rattle.tcl_calls.specs.Expressions.{IsRefused, settles}
+use Rattle.tcl_calls.specs.Expressions.{IsRefused, settles, settles_two}
 use Rattle.tcl_language.specs.Control.{foreach_turns, is_over, sets_walks, uplevel}
 use Rattle.tcl_language.specs.Instructions.{Walk as Left}
 use Rattle.tcl_language.specs.Instructions.Instr.{Foreach}
@@ -105,9 +106,10 @@ use Rattle.tcl_evaluation.proofs.Walking
 use Rattle.tcl_evaluation.proofs.Walking.{passed}
 use Rattle.tcl_evaluation.proofs.Conditions
 use Rattle.tcl_evaluation.proofs.Computing
+use Rattle.tcl_evaluation.proofs.TwoOperands
 use Rattle.tcl_evaluation.proofs.Looping
 use Rattle.tcl_evaluation.proofs.Looping.{next_then}
-use Rattle.tcl_evaluation.specs.Conditional.{ComputesTo, TestGoes, TurnGoes, turn_then}
+use Rattle.tcl_evaluation.specs.Conditional.{ComputesTo, OperandBreaks, OperandGoes, TestGoes, TurnGoes, turn_then}
 use Rattle.tcl_evaluation.proofs.+eval.Goals.{expressions::while_loop-in_default-via-then-args-lt2, expressions::while_loop-in_default-via-else-args-lt2+else-args-lt3, expressions::for_loop-in_default-via-then-args-lt4, expressions::for_loop-in_default-via-else-args-lt4+else-args-lt5}
 -- (of `interp` and children's own commands)
 use Rattle.std.specs.Prelude.{codes}
@@ -754,6 +756,45 @@ words::change_by_part-returns-clause-here g t c =
 pub words::change_by_part-returns-clause-keeps : goal.words::change_by_part-returns-clause-keeps
 words::change_by_part-returns-clause-keeps g t c = keeps-trans c.eval_lone_part.ensures.keeps c.change_to.ensures.keeps
 
+pub words::change_by_parts-returns-in_err-value-clause-runs : goal.words::change_by_parts-returns-in_err-value-clause-runs
+words::change_by_parts-returns-in_err-value-clause-runs g t c =
+    let word : WordRead = record { parts = map seen_part c.args.parts.now; expand = false } in
+    let p = err_from_is_err_and c.from_residual.result c.from_residual.ensures.1 in
+    ran_err c.from_residual.result c.in_err-value.field-0.0 p.0 _ _ _ p.1 p.2
+    (stays_of c.substitute.result c.in_err-value.field-0.0 (EndsFrom (ways g.O.Outside.goes g.O.Outside.loses) c.args.tree.now c.args.outside.now c.args.place (λ style. parts (map seen_part c.args.parts.now) [] []) c.substitute.new.tree c.substitute.new.outside) c.in_err-value.ensures.same c.substitute.ensures.runs c.in_err-value.ensures.stays)
+    (λ e h q style at. Steps.two_lend style c.args.command.now c.args.variable.now (word ∷ []) c.keeps_limit.ensures c.name-name.ensures.within
+    (Steps.word_stays style word [] (c.args.command.now ∷ c.args.variable.now ∷ []) e h.1 (h.0 q style at)))
+
+pub words::change_by_parts-returns-in_err-value-clause-here : goal.words::change_by_parts-returns-in_err-value-clause-here
+words::change_by_parts-returns-in_err-value-clause-here g t c =
+    let p = err_from_is_err_and c.from_residual.result c.from_residual.ensures.1 in
+    here_passed c.from_residual.result c.substitute.result c.in_err-value.field-0.0 p.0 c.args.tree.now c.args.tree.now c.substitute.new.tree c.args.place p.1 p.2 c.in_err-value.ensures.same (here-refl c.args.tree.now c.args.place) c.substitute.ensures.here
+
+pub words::change_by_parts-change_to-requires : goal.words::change_by_parts-change_to-requires
+words::change_by_parts-change_to-requires g t c κs within =
+    let here = here_text c.substitute.result c.in_ok-value.value c.args.tree.now c.substitute.new.tree c.args.place c.in_ok-value.ensures.text c.substitute.ensures.here in
+    (search rules, (search rules, still_running c.args.tree.now c.substitute.new.tree c.args.place here c.requires))
+
+pub words::change_by_parts-returns-clause-runs : goal.words::change_by_parts-returns-clause-runs
+words::change_by_parts-returns-clause-runs g t c =
+    let word : WordRead = record { parts = map seen_part c.args.parts.now; expand = false } in
+    let here = here_text c.substitute.result c.in_ok-value.value c.args.tree.now c.substitute.new.tree c.args.place c.in_ok-value.ensures.text c.substitute.ensures.here in
+    let x = ran_text c.substitute.result c.in_ok-value.value (EndsFrom (ways g.O.Outside.goes g.O.Outside.loses) c.args.tree.now c.args.outside.now c.args.place (λ style. parts (map seen_part c.args.parts.now) [] []) c.substitute.new.tree c.substitute.new.outside) c.in_ok-value.ensures.text c.substitute.ensures.runs in
+    IfRan-more c.change_to.result
+    (EndsFrom (ways g.O.Outside.goes g.O.Outside.loses) c.substitute.new.tree c.substitute.new.outside c.args.place (λ style. words [] (c.args.command.now ∷ c.args.variable.now ∷ c.in_ok-value.value ∷ [])) c.change_to.new.tree c.change_to.new.outside)
+    (EndsFrom (ways g.O.Outside.goes g.O.Outside.loses) c.args.tree.now c.args.outside.now c.args.place (λ style. words (literal_word c.args.command.now ∷ literal_word c.args.variable.now ∷ word ∷ []) []) c.change_to.new.tree c.change_to.new.outside)
+    (λ e h q style at. Steps.two_lend style c.args.command.now c.args.variable.now (word ∷ []) c.keeps_limit.ensures c.name-name.ensures.within
+    (Steps.single_goes style word [] (c.args.command.now ∷ c.args.variable.now ∷ []) x.0 c.in_ok-value.value refl x.2 x.3 (x.1 q style at)
+    (h q style (still_at c.args.tree.now c.substitute.new.tree c.args.place q style here at)))) c.change_to.ensures.runs
+
+pub words::change_by_parts-returns-clause-here : goal.words::change_by_parts-returns-clause-here
+words::change_by_parts-returns-clause-here g t c =
+    here_then c.change_to.result c.args.tree.now c.substitute.new.tree c.change_to.new.tree c.args.place
+    (here_text c.substitute.result c.in_ok-value.value c.args.tree.now c.substitute.new.tree c.args.place c.in_ok-value.ensures.text c.substitute.ensures.here) c.change_to.ensures.here
+
+pub words::change_by_parts-returns-clause-keeps : goal.words::change_by_parts-returns-clause-keeps
+words::change_by_parts-returns-clause-keeps g t c = keeps-trans c.substitute.ensures.keeps c.change_to.ensures.keeps
+
 pub words::substitute_and_call-returns-in-Lone-clause-runs : goal.words::substitute_and_call-returns-in-Lone-clause-runs
 words::substitute_and_call-returns-in-Lone-clause-runs g t c =
     let seen : map seen_word c.args.words.now ≡ literal_word c.in-Literal.command ∷ literal_word c.in-Name.variable ∷ record { parts = seen_part c.in-Lone.part ∷ []; expand = false } ∷ [] =
@@ -766,6 +807,22 @@ words::substitute_and_call-returns-in-Lone-clause-runs g t c =
     (EndsFrom (ways g.O.Outside.goes g.O.Outside.loses) c.args.tree.now c.args.outside.now c.args.place (λ style. words (literal_word c.in-Literal.command ∷ literal_word c.in-Name.variable ∷ record { parts = seen_part c.in-Lone.part ∷ []; expand = false } ∷ []) []) c.change_by_part.new.tree c.change_by_part.new.outside)
     (EndsFrom (ways g.O.Outside.goes g.O.Outside.loses) c.args.tree.now c.args.outside.now c.args.place (λ style. words (map seen_word c.args.words.now) []) c.change_by_part.new.tree c.change_by_part.new.outside)
     (λ e h q style at. at_prog (ap (λ (ws : List WordRead). words ws []) seen) (h q style at)) c.change_by_part.ensures.runs
+
+pub words::substitute_and_call-returns-in-Parts-clause-runs : goal.words::substitute_and_call-returns-in-Parts-clause-runs
+words::substitute_and_call-returns-in-Parts-clause-runs g t c =
+    let word : WordRead = record { parts = map seen_part c.as_slice.result.now; expand = false } in
+    let third : seen_word c.third-item.result ≡ word =
+    ap seen_word c.in-Parts.is ∙ ap (λ (ps : List PreparedPart). record { parts = map seen_part ps; expand = false }) (sym c.as_slice.ensures.value) in
+    let seen : map seen_word c.args.words.now ≡ literal_word c.in-Literal.command ∷ literal_word c.in-Name.variable ∷ word ∷ [] =
+    ap (map seen_word) (three_items c.args.words.now c.first-item.result c.second-item.result c.third-item.result c.in-len3.len_at_least c.in-len3.len_below c.first-item.is c.second-item.is c.third-item.is)
+    ∙ ap (λ (w : WordRead). w ∷ seen_word c.second-item.result ∷ seen_word c.third-item.result ∷ []) (ap seen_word c.in-Literal.is)
+    ∙ ap (λ (w : WordRead). literal_word c.in-Literal.command ∷ w ∷ seen_word c.third-item.result ∷ []) (ap seen_word c.in-Name.is)
+    ∙ ap (λ (w : WordRead). literal_word c.in-Literal.command ∷ literal_word c.in-Name.variable ∷ w ∷ []) third
+    in
+    IfRan-more c.change_by_parts.result
+    (EndsFrom (ways g.O.Outside.goes g.O.Outside.loses) c.args.tree.now c.args.outside.now c.args.place (λ style. words (literal_word c.in-Literal.command ∷ literal_word c.in-Name.variable ∷ word ∷ []) []) c.change_by_parts.new.tree c.change_by_parts.new.outside)
+    (EndsFrom (ways g.O.Outside.goes g.O.Outside.loses) c.args.tree.now c.args.outside.now c.args.place (λ style. words (map seen_word c.args.words.now) []) c.change_by_parts.new.tree c.change_by_parts.new.outside)
+    (λ e h q style at. at_prog (ap (λ (ws : List WordRead). words ws []) seen) (h q style at)) c.change_by_parts.ensures.runs
 
 -- any number of words
 
@@ -1598,8 +1655,8 @@ expressions::expression-returns-in-Some-number_behind-clause-runs g t c =
     subst (λ (text : List ℕ). ComputesTo (ways g.O.Outside.goes g.O.Outside.loses) c.args.tree.now c.args.outside.now c.args.place c.args.kept.now c.count_behind.new.tree c.count_behind.new.outside (Some (Completed (ok text)))) (sym made)
     (computes_behind (ways g.O.Outside.goes g.O.Outside.loses) c.args.tree.now c.count_behind.new.tree c.args.outside.now c.count_behind.new.outside c.args.place c.args.kept.now c.in-Some-number_behind.number _ c.in-Some-number_behind.ensures c.in_ok-count_behind.ensures.computed)
 
-pub expressions::compute-returns-in_err-operand-clause-runs : goal.expressions::compute-returns-in_err-operand-clause-runs
-expressions::compute-returns-in_err-operand-clause-runs g t c =
+pub expressions::compute_parts-returns-in_err-operand-clause-runs : goal.expressions::compute_parts-returns-in_err-operand-clause-runs
+expressions::compute_parts-returns-in_err-operand-clause-runs g t c =
     let p = err_from_is_err_and c.from_residual.result c.from_residual.ensures.1 in
     fails_err c.from_residual.result c.in_err-operand.field-0.0 p.0 _ _ _ p.1 p.2 c.in_err-operand.ensures.gives
     (λ e h q style at text is.
@@ -1608,8 +1665,8 @@ expressions::compute-returns-in_err-operand-clause-runs g t c =
     (Conditions.is_refused style _ (settles style) e (subst (λ (s : Integers). IsRefused (from s c.args.kept.now.nodes.items c.parts.evaluation.next c.parts.evaluation.values.items) e) same h)))
     (λ q style at text is. c.parts.invariant.leads q style at text is _ _ _ stopped)
 
-pub expressions::compute-returns-in_err-value-in-Wants-clause-runs : goal.expressions::compute-returns-in_err-value-in-Wants-clause-runs
-expressions::compute-returns-in_err-value-in-Wants-clause-runs g t c =
+pub expressions::compute_parts-returns-in_err-value-in-Wants-clause-runs : goal.expressions::compute_parts-returns-in_err-value-in-Wants-clause-runs
+expressions::compute_parts-returns-in_err-value-in-Wants-clause-runs g t c =
     let wants : from c.integers-style.result c.args.kept.now.nodes.items c.parts.evaluation.next c.parts.evaluation.values.items
     ≡ substitute c.in-Wants.operand.now (λ v. from c.integers-style.result c.args.kept.now.nodes.items c.next_part.new.evaluation.next (c.next_part.new.evaluation.values.items ++ v ∷ [])) = search rules in
     let p = err_from_is_err_and c.from_residual-in_err-value-in-Wants.result c.from_residual-in_err-value-in-Wants.ensures.1 in
@@ -1622,8 +1679,8 @@ expressions::compute-returns-in_err-value-in-Wants-clause-runs g t c =
     (Conditions.wants_part style c.integers-style.result c.args.kept.now.nodes.items c.parts.evaluation.next c.next_part.new.evaluation.next c.parts.evaluation.values.items c.next_part.new.evaluation.values.items c.in-Wants.operand.now same wants
     (Conditions.part_stays style c.in-Wants.operand.now (λ v. from style c.args.kept.now.nodes.items c.next_part.new.evaluation.next (c.next_part.new.evaluation.values.items ++ v ∷ [])) (settles style) e h.1 (h.0 q style (still_at c.args.tree.now c.parts.tree c.args.place q style c.parts.invariant.here at)))))
 
-pub expressions::compute-returns-in_err-supply-in-Wants-clause-runs : goal.expressions::compute-returns-in_err-supply-in-Wants-clause-runs
-expressions::compute-returns-in_err-supply-in-Wants-clause-runs g t c =
+pub expressions::compute_parts-returns-in_err-supply-in-Wants-clause-runs : goal.expressions::compute_parts-returns-in_err-supply-in-Wants-clause-runs
+expressions::compute_parts-returns-in_err-supply-in-Wants-clause-runs g t c =
     let wants : from c.integers-style.result c.args.kept.now.nodes.items c.parts.evaluation.next c.parts.evaluation.values.items
     ≡ substitute c.in-Wants.operand.now (λ v. from c.integers-style.result c.args.kept.now.nodes.items c.next_part.new.evaluation.next (c.next_part.new.evaluation.values.items ++ v ∷ [])) = search rules in
     let x = ran_text c.eval_operand.result c.in_ok-value-in-Wants.value (EndsFrom (ways g.O.Outside.goes g.O.Outside.loses) c.parts.tree c.parts.outside c.args.place (λ style. parts c.in-Wants.operand.now.parts [] []) c.eval_operand.new.tree c.eval_operand.new.outside)
@@ -1637,8 +1694,8 @@ expressions::compute-returns-in_err-supply-in-Wants-clause-runs g t c =
     (Computing.part_goes style c.in-Wants.operand.now (λ v. from style c.args.kept.now.nodes.items c.next_part.new.evaluation.next (c.next_part.new.evaluation.values.items ++ v ∷ [])) (settles style) x.0 c.in_ok-value-in-Wants.value x.2 x.3 (x.1 q style (still_at c.args.tree.now c.parts.tree c.args.place q style c.parts.invariant.here at))
     stopped)))
 
-pub expressions::compute-returns-in-Done-clause-runs : goal.expressions::compute-returns-in-Done-clause-runs
-expressions::compute-returns-in-Done-clause-runs g t c =
+pub expressions::compute_parts-returns-in-Done-clause-runs : goal.expressions::compute_parts-returns-in-Done-clause-runs
+expressions::compute_parts-returns-in-Done-clause-runs g t c =
     let gives : from c.integers-style.result c.args.kept.now.nodes.items c.parts.evaluation.next c.parts.evaluation.values.items ≡ value c.in-Done.value = search rules in
     ran c.settle.result (EndsBy (settles c.integers-style.result c.in-Done.value)) (ComputesTo (ways g.O.Outside.goes g.O.Outside.loses) c.args.tree.now c.args.outside.now c.args.place c.args.kept.now c.parts.tree c.parts.outside)
     (λ e h q style at text is.
@@ -1647,8 +1704,8 @@ expressions::compute-returns-in-Done-clause-runs g t c =
     (Conditions.is_value style c.integers-style.result c.args.kept.now.nodes.items c.parts.evaluation.next c.parts.evaluation.values.items c.in-Done.value e same gives h))
     (λ q style at text is. c.parts.invariant.leads q style at text is _ _ _ stopped) c.settle.ensures
 
-pub expressions::compute-parts-preserved : goal.expressions::compute-parts-preserved
-expressions::compute-parts-preserved g t c =
+pub expressions::compute_parts-parts-preserved : goal.expressions::compute_parts-parts-preserved
+expressions::compute_parts-parts-preserved g t c =
     let wants : from c.integers-style.result c.args.kept.now.nodes.items c.parts.evaluation.next c.parts.evaluation.values.items
     ≡ substitute c.in-Wants.operand.now (λ v. from c.integers-style.result c.args.kept.now.nodes.items c.next_part.new.evaluation.next (c.next_part.new.evaluation.values.items ++ v ∷ [])) = search rules in
     let x = ran_text c.eval_operand.result c.in_ok-value-in-Wants.value (EndsFrom (ways g.O.Outside.goes g.O.Outside.loses) c.parts.tree c.parts.outside c.args.place (λ style. parts c.in-Wants.operand.now.parts [] []) c.eval_operand.new.tree c.eval_operand.new.outside)
@@ -1663,6 +1720,78 @@ expressions::compute-parts-preserved g t c =
       here = here-trans c.args.tree.now c.parts.tree c.eval_operand.new.tree c.args.place c.parts.invariant.here (here_text c.eval_operand.result c.in_ok-value-in-Wants.value c.parts.tree c.eval_operand.new.tree c.args.place c.in_ok-value-in-Wants.ensures.text c.eval_operand.ensures.here);
       keeps = keeps-trans c.parts.invariant.keeps c.eval_operand.ensures.keeps;
     }
+
+-- # Operands, and expressions of two of them
+
+pub operands::eval_leaf-returns-in_err-clone-in-Literal-clause-runs : goal.operands::eval_leaf-returns-in_err-clone-in-Literal-clause-runs
+operands::eval_leaf-returns-in_err-clone-in-Literal-clause-runs g t c =
+    let p = err_from_is_err_and c.from_residual.result c.from_residual.ensures.1 in
+    memory_err c.from_residual.result p.0 _ _ p.1 p.2 (λ q style at next k. stopped)
+
+pub operands::eval_leaf-returns-in-Substituted-clause-runs : goal.operands::eval_leaf-returns-in-Substituted-clause-runs
+operands::eval_leaf-returns-in-Substituted-clause-runs g t c =
+    let w = c.in-Substituted.operand in
+    TwoOperands.passed_on c.eval_operand.result c.on_ok.result (EndsFrom (ways g.O.Outside.goes g.O.Outside.loses) c.args.tree.now c.args.outside.now c.args.place (λ style. parts w.parts [] []) c.eval_operand.new.tree c.eval_operand.new.outside)
+    (OperandBreaks (ways g.O.Outside.goes g.O.Outside.loses) c.args.tree.now c.args.outside.now c.args.place c.args.leaf.now c.eval_operand.new.tree c.eval_operand.new.outside)
+    (OperandGoes (ways g.O.Outside.goes g.O.Outside.loses) c.args.tree.now c.args.outside.now c.args.place c.args.leaf.now c.eval_operand.new.tree c.eval_operand.new.outside)
+    c.on_ok.ensures.text c.on_ok.ensures.same c.on_ok.ensures.stays c.eval_operand.ensures.runs
+    (λ d text a b h q style at next k V y e run. at_prog (ap (λ (l : Leaf). computed (operand l next) k) c.in-Substituted.is) (Computing.part_goes style w next k d text a b (h q style at) run))
+    (λ e h l q style at next k. at_prog (ap (λ (l : Leaf). computed (operand l next) k) c.in-Substituted.is) (Conditions.part_stays style w next k e l (h q style at)))
+
+pub operands::eval_leaf-returns-in-Substituted-clause-here : goal.operands::eval_leaf-returns-in-Substituted-clause-here
+operands::eval_leaf-returns-in-Substituted-clause-here g t c = TwoOperands.here_on c.eval_operand.result c.on_ok.result c.args.tree.now c.eval_operand.new.tree c.args.place c.on_ok.ensures.text c.on_ok.ensures.same c.eval_operand.ensures.here
+
+pub expressions::compute_two-eval_leaf-requires-2 : goal.expressions::compute_two-eval_leaf-requires-2
+expressions::compute_two-eval_leaf-requires-2 g t c κs within = (search rules, (search rules, still_running c.args.tree.now c.eval_leaf.new.tree c.args.place c.in_ok-first.ensures.here c.requires))
+
+pub expressions::compute_two-returns-in_err-first-clause-runs : goal.expressions::compute_two-returns-in_err-first-clause-runs
+expressions::compute_two-returns-in_err-first-clause-runs g t c = λ kept nodes.
+    let p = err_from_is_err_and c.from_residual.result c.from_residual.ensures.1 in
+    ran_err c.from_residual.result c.in_err-first.field-0.0 p.0 _ _ _ p.1 p.2 c.in_err-first.ensures.runs
+    (λ e h q style at text is. TwoOperands.two_kept style c.args.left.now c.args.right.now c.args.operator text kept nodes is (h q style at _ _))
+
+pub expressions::compute_two-returns-in_err-first-clause-here : goal.expressions::compute_two-returns-in_err-first-clause-here
+expressions::compute_two-returns-in_err-first-clause-here g t c =
+    let p = err_from_is_err_and c.from_residual.result c.from_residual.ensures.1 in
+    here_err c.from_residual.result c.in_err-first.field-0.0 p.0 c.args.tree.now c.args.tree.now c.eval_leaf.new.tree c.args.place p.1 p.2 (here-refl c.args.tree.now c.args.place) c.in_err-first.ensures.here
+
+pub expressions::compute_two-returns-in_err-second-clause-runs : goal.expressions::compute_two-returns-in_err-second-clause-runs
+expressions::compute_two-returns-in_err-second-clause-runs g t c = λ kept nodes.
+    let p = err_from_is_err_and c.from_residual-in_err-second.result c.from_residual-in_err-second.ensures.1 in
+    ran_err c.from_residual-in_err-second.result c.in_err-second.field-0.0 p.0 _ _ _ p.1 p.2 c.in_err-second.ensures.runs
+    (λ e h q style at text is. TwoOperands.two_kept style c.args.left.now c.args.right.now c.args.operator text kept nodes is
+    (c.in_ok-first.ensures.runs q style at _ _ _ _ _ (h q style (still_at c.args.tree.now c.eval_leaf.new.tree c.args.place q style c.in_ok-first.ensures.here at) _ _)))
+
+pub expressions::compute_two-returns-in_err-second-clause-here : goal.expressions::compute_two-returns-in_err-second-clause-here
+expressions::compute_two-returns-in_err-second-clause-here g t c =
+    let p = err_from_is_err_and c.from_residual-in_err-second.result c.from_residual-in_err-second.ensures.1 in
+    here_err c.from_residual-in_err-second.result c.in_err-second.field-0.0 p.0 c.args.tree.now c.eval_leaf.new.tree c.eval_leaf-2.new.tree c.args.place p.1 p.2 c.in_ok-first.ensures.here c.in_err-second.ensures.here
+
+pub expressions::compute_two-returns-in_err-second-clause-keeps : goal.expressions::compute_two-returns-in_err-second-clause-keeps
+expressions::compute_two-returns-in_err-second-clause-keeps g t c = keeps-trans c.eval_leaf.ensures.keeps c.eval_leaf-2.ensures.keeps
+
+pub expressions::compute_two-returns-clause-keeps : goal.expressions::compute_two-returns-clause-keeps
+expressions::compute_two-returns-clause-keeps g t c = keeps-trans c.eval_leaf.ensures.keeps c.eval_leaf-2.ensures.keeps
+
+pub expressions::compute_two-returns-clause-runs : goal.expressions::compute_two-returns-clause-runs
+expressions::compute_two-returns-clause-runs g t c = λ kept nodes.
+    ran c.settle_two.result (EndsBy (settles_two c.integers-style.result c.args.operator c.in_ok-first.first c.in_ok-second.second)) (ComputesTo (ways g.O.Outside.goes g.O.Outside.loses) c.args.tree.now c.args.outside.now c.args.place kept c.eval_leaf-2.new.tree c.eval_leaf-2.new.outside)
+    (λ e h q style at text is.
+    let after = still_at c.args.tree.now c.eval_leaf.new.tree c.args.place q style c.in_ok-first.ensures.here at in
+    let same = c.integers-style.ensures ∙ at.style_is in
+    TwoOperands.two_kept style c.args.left.now c.args.right.now c.args.operator text kept nodes is
+    (c.in_ok-first.ensures.runs q style at _ _ _ _ _ (c.in_ok-second.ensures.runs q style after _ _ _ _ _ (TwoOperands.two_end style c.integers-style.result c.args.operator c.in_ok-first.first c.in_ok-second.second e same h))))
+    (λ q style at text is.
+    let after = still_at c.args.tree.now c.eval_leaf.new.tree c.args.place q style c.in_ok-first.ensures.here at in
+    TwoOperands.two_kept style c.args.left.now c.args.right.now c.args.operator text kept nodes is
+    (c.in_ok-first.ensures.runs q style at _ _ _ _ _ (c.in_ok-second.ensures.runs q style after _ _ _ _ _ stopped)))
+    c.settle_two.ensures
+
+pub expressions::compute_two-returns-clause-here : goal.expressions::compute_two-returns-clause-here
+expressions::compute_two-returns-clause-here g t c = on_completion c.settle_two.result (IsHere c.args.tree.now c.eval_leaf-2.new.tree c.args.place) (here-trans c.args.tree.now c.eval_leaf.new.tree c.eval_leaf-2.new.tree c.args.place c.in_ok-first.ensures.here c.in_ok-second.ensures.here)
+
+pub expressions::compute-returns-in-Some-clause-runs : goal.expressions::compute-returns-in-Some-clause-runs
+expressions::compute-returns-in-Some-clause-runs g t c = c.compute_two.ensures.runs c.args.kept.now (sym c.as_slice.ensures.value ∙ c.in-Some.ensures)
 
 pub expressions::condition-returns-in-Some-clause-runs : goal.expressions::condition-returns-in-Some-clause-runs
 expressions::condition-returns-in-Some-clause-runs g t c = λ q style at text is k V y r run.
@@ -3407,8 +3536,8 @@ collecting::lmap-eval_read-ended-requires g t c κs within = (search rules, (sea
 pub evaluation::eval_commands-eval_command-requires : goal.evaluation::eval_commands-eval_command-requires
 evaluation::eval_commands-eval_command-requires g t c κs within = (search rules, (search rules, still_running c.args.tree.now c.commands.tree c.args.place c.commands.invariant.here c.requires.running))
 
-pub expressions::compute-eval_operand-requires : goal.expressions::compute-eval_operand-requires
-expressions::compute-eval_operand-requires g t c κs within = (search rules, (search rules, still_running c.args.tree.now c.parts.tree c.args.place c.parts.invariant.here c.requires))
+pub expressions::compute_parts-eval_operand-requires : goal.expressions::compute_parts-eval_operand-requires
+expressions::compute_parts-eval_operand-requires g t c κs within = (search rules, (search rules, still_running c.args.tree.now c.parts.tree c.args.place c.parts.invariant.here c.requires))
 
 pub expressions::while_loop-turn-requires : goal.expressions::while_loop-turn-requires
 expressions::while_loop-turn-requires g t c κs within = (search rules, (search rules, (still_running c.args.tree.now c.turns.tree c.args.place c.turns.invariant.here c.requires, c.deref-in-turns.ensures ∙ c.in_ok-script.ensures)))
@@ -3547,19 +3676,19 @@ commands::call_procedure-returns-then-not-branch-clause-keeps g t c = level_keep
 pub expressions::expression-returns-in-Some-clause-here : goal.expressions::expression-returns-in-Some-clause-here
 expressions::expression-returns-in-Some-clause-here g t c = here-refl c.args.tree.now c.args.place
 
-pub expressions::compute-returns-in_err-operand-clause-here : goal.expressions::compute-returns-in_err-operand-clause-here
-expressions::compute-returns-in_err-operand-clause-here g t c = on_completion c.from_residual.result (IsHere c.args.tree.now c.parts.tree c.args.place) c.parts.invariant.here
+pub expressions::compute_parts-returns-in_err-operand-clause-here : goal.expressions::compute_parts-returns-in_err-operand-clause-here
+expressions::compute_parts-returns-in_err-operand-clause-here g t c = on_completion c.from_residual.result (IsHere c.args.tree.now c.parts.tree c.args.place) c.parts.invariant.here
 
-pub expressions::compute-returns-in_err-value-in-Wants-clause-here : goal.expressions::compute-returns-in_err-value-in-Wants-clause-here
-expressions::compute-returns-in_err-value-in-Wants-clause-here g t c =
+pub expressions::compute_parts-returns-in_err-value-in-Wants-clause-here : goal.expressions::compute_parts-returns-in_err-value-in-Wants-clause-here
+expressions::compute_parts-returns-in_err-value-in-Wants-clause-here g t c =
     let p = err_from_is_err_and c.from_residual-in_err-value-in-Wants.result c.from_residual-in_err-value-in-Wants.ensures.1 in
     here_passed c.from_residual-in_err-value-in-Wants.result c.eval_operand.result c.in_err-value-in-Wants.field-0.0 p.0 c.args.tree.now c.parts.tree c.eval_operand.new.tree c.args.place p.1 p.2 c.in_err-value-in-Wants.ensures.same c.parts.invariant.here c.eval_operand.ensures.here
 
-pub expressions::compute-returns-in_err-supply-in-Wants-clause-here : goal.expressions::compute-returns-in_err-supply-in-Wants-clause-here
-expressions::compute-returns-in_err-supply-in-Wants-clause-here g t c = on_completion c.from_residual-in_err-supply-in-Wants.result (IsHere c.args.tree.now c.eval_operand.new.tree c.args.place) (here-trans c.args.tree.now c.parts.tree c.eval_operand.new.tree c.args.place c.parts.invariant.here (here_text c.eval_operand.result c.in_ok-value-in-Wants.value c.parts.tree c.eval_operand.new.tree c.args.place c.in_ok-value-in-Wants.ensures.text c.eval_operand.ensures.here))
+pub expressions::compute_parts-returns-in_err-supply-in-Wants-clause-here : goal.expressions::compute_parts-returns-in_err-supply-in-Wants-clause-here
+expressions::compute_parts-returns-in_err-supply-in-Wants-clause-here g t c = on_completion c.from_residual-in_err-supply-in-Wants.result (IsHere c.args.tree.now c.eval_operand.new.tree c.args.place) (here-trans c.args.tree.now c.parts.tree c.eval_operand.new.tree c.args.place c.parts.invariant.here (here_text c.eval_operand.result c.in_ok-value-in-Wants.value c.parts.tree c.eval_operand.new.tree c.args.place c.in_ok-value-in-Wants.ensures.text c.eval_operand.ensures.here))
 
-pub expressions::compute-returns-in-Done-clause-here : goal.expressions::compute-returns-in-Done-clause-here
-expressions::compute-returns-in-Done-clause-here g t c = on_completion c.settle.result (IsHere c.args.tree.now c.parts.tree c.args.place) c.parts.invariant.here
+pub expressions::compute_parts-returns-in-Done-clause-here : goal.expressions::compute_parts-returns-in-Done-clause-here
+expressions::compute_parts-returns-in-Done-clause-here g t c = on_completion c.settle.result (IsHere c.args.tree.now c.parts.tree c.args.place) c.parts.invariant.here
 
 pub expressions::condition-returns-in_err-value-clause-here : goal.expressions::condition-returns-in_err-value-clause-here
 expressions::condition-returns-in_err-value-clause-here g t c =
@@ -4276,8 +4405,8 @@ waiting::wait-turns-smaller g t c =
     let left : g.O.Outside.entries_left c.hand_in.new.outside ≤ g.O.Outside.entries_left c.next-coming.new.self = c.hand_in.ensures.keeps.left in
     omega arith
 
-pub expressions::compute-returns-in_err-value-in-Wants-clause-keeps : goal.expressions::compute-returns-in_err-value-in-Wants-clause-keeps
-expressions::compute-returns-in_err-value-in-Wants-clause-keeps g t c = keeps-trans c.parts.invariant.keeps c.eval_operand.ensures.keeps
+pub expressions::compute_parts-returns-in_err-value-in-Wants-clause-keeps : goal.expressions::compute_parts-returns-in_err-value-in-Wants-clause-keeps
+expressions::compute_parts-returns-in_err-value-in-Wants-clause-keeps g t c = keeps-trans c.parts.invariant.keeps c.eval_operand.ensures.keeps
 
-pub expressions::compute-returns-in_err-supply-in-Wants-clause-keeps : goal.expressions::compute-returns-in_err-supply-in-Wants-clause-keeps
-expressions::compute-returns-in_err-supply-in-Wants-clause-keeps g t c = keeps-trans c.parts.invariant.keeps c.eval_operand.ensures.keeps
+pub expressions::compute_parts-returns-in_err-supply-in-Wants-clause-keeps : goal.expressions::compute_parts-returns-in_err-supply-in-Wants-clause-keeps
+expressions::compute_parts-returns-in_err-supply-in-Wants-clause-keeps g t c = keeps-trans c.parts.invariant.keeps c.eval_operand.ensures.keeps

@@ -50,7 +50,7 @@ abbrev pub decreases-evaluation::eval_lone_part : goal.decreases-evaluation::eva
 decreases-evaluation::eval_lone_part g l = 32032 * g.O.Outside.entries_left l.outside.now + 32 * room (tree_of l.tree.now) + 2
 
 abbrev pub decreases-commands::call_builtin : goal.decreases-commands::call_builtin
-decreases-commands::call_builtin g l = 32032 * g.O.Outside.entries_left l.outside.now + 32 * room (tree_of l.tree.now) + 10
+decreases-commands::call_builtin g l = 32032 * g.O.Outside.entries_left l.outside.now + 32 * room (tree_of l.tree.now) + 12
 
 abbrev pub decreases-evaluation::substitute : goal.decreases-evaluation::substitute
 decreases-evaluation::substitute g l = 32032 * g.O.Outside.entries_left l.outside.now + 32 * room (tree_of l.tree.now) + 3
@@ -59,82 +59,85 @@ abbrev pub decreases-evaluation::eval_word : goal.decreases-evaluation::eval_wor
 decreases-evaluation::eval_word g l = 32032 * g.O.Outside.entries_left l.outside.now + 32 * room (tree_of l.tree.now) + 4
 
 abbrev pub decreases-commands::call_command : goal.decreases-commands::call_command
-decreases-commands::call_command g l = 32032 * g.O.Outside.entries_left l.outside.now + 32 * room (tree_of l.tree.now) + 11
+decreases-commands::call_command g l = 32032 * g.O.Outside.entries_left l.outside.now + 32 * room (tree_of l.tree.now) + 13
 
 abbrev pub decreases-commands::call : goal.decreases-commands::call
-decreases-commands::call g l = 32032 * g.O.Outside.entries_left l.outside.now + 32 * room (tree_of l.tree.now) + 12
+decreases-commands::call g l = 32032 * g.O.Outside.entries_left l.outside.now + 32 * room (tree_of l.tree.now) + 14
 
 abbrev pub decreases-words::call_texts : goal.decreases-words::call_texts
-decreases-words::call_texts g l = 32032 * g.O.Outside.entries_left l.outside.now + 32 * room (tree_of l.tree.now) + 13
+decreases-words::call_texts g l = 32032 * g.O.Outside.entries_left l.outside.now + 32 * room (tree_of l.tree.now) + 15
 
 abbrev pub decreases-words::call_literals : goal.decreases-words::call_literals
-decreases-words::call_literals g l = 32032 * g.O.Outside.entries_left l.outside.now + 32 * room (tree_of l.tree.now) + 14
+decreases-words::call_literals g l = 32032 * g.O.Outside.entries_left l.outside.now + 32 * room (tree_of l.tree.now) + 16
 
 abbrev pub decreases-at_hand::call_known : goal.decreases-at_hand::call_known
-decreases-at_hand::call_known g l = 32032 * g.O.Outside.entries_left l.outside.now + 32 * room (tree_of l.tree.now) + 11
+decreases-at_hand::call_known g l = 32032 * g.O.Outside.entries_left l.outside.now + 32 * room (tree_of l.tree.now) + 13
 
 abbrev pub decreases-at_hand::call_named : goal.decreases-at_hand::call_named
-decreases-at_hand::call_named g l = 32032 * g.O.Outside.entries_left l.outside.now + 32 * room (tree_of l.tree.now) + 12
+decreases-at_hand::call_named g l = 32032 * g.O.Outside.entries_left l.outside.now + 32 * room (tree_of l.tree.now) + 14
 
 abbrev pub decreases-at_hand::call_known_on_hand : goal.decreases-at_hand::call_known_on_hand
-decreases-at_hand::call_known_on_hand g l = 32032 * g.O.Outside.entries_left l.outside.now + 32 * room (tree_of l.tree.now) + 12
+decreases-at_hand::call_known_on_hand g l = 32032 * g.O.Outside.entries_left l.outside.now + 32 * room (tree_of l.tree.now) + 14
 
 abbrev pub decreases-at_hand::call_named_on_hand : goal.decreases-at_hand::call_named_on_hand
-decreases-at_hand::call_named_on_hand g l = 32032 * g.O.Outside.entries_left l.outside.now + 32 * room (tree_of l.tree.now) + 13
+decreases-at_hand::call_named_on_hand g l = 32032 * g.O.Outside.entries_left l.outside.now + 32 * room (tree_of l.tree.now) + 15
 
 abbrev pub decreases-at_hand::call_on_hand : goal.decreases-at_hand::call_on_hand
-decreases-at_hand::call_on_hand g l = 32032 * g.O.Outside.entries_left l.outside.now + 32 * room (tree_of l.tree.now) + 14
+decreases-at_hand::call_on_hand g l = 32032 * g.O.Outside.entries_left l.outside.now + 32 * room (tree_of l.tree.now) + 16
 
 abbrev pub decreases-at_hand::call_one_at_hand : goal.decreases-at_hand::call_one_at_hand
-decreases-at_hand::call_one_at_hand g l = 32032 * g.O.Outside.entries_left l.outside.now + 32 * room (tree_of l.tree.now) + 15
+decreases-at_hand::call_one_at_hand g l = 32032 * g.O.Outside.entries_left l.outside.now + 32 * room (tree_of l.tree.now) + 17
 
 abbrev pub decreases-at_hand::call_two_at_hand : goal.decreases-at_hand::call_two_at_hand
-decreases-at_hand::call_two_at_hand g l = 32032 * g.O.Outside.entries_left l.outside.now + 32 * room (tree_of l.tree.now) + 15
+decreases-at_hand::call_two_at_hand g l = 32032 * g.O.Outside.entries_left l.outside.now + 32 * room (tree_of l.tree.now) + 17
 
 abbrev pub decreases-at_hand::call_three_words : goal.decreases-at_hand::call_three_words
-decreases-at_hand::call_three_words g l = 32032 * g.O.Outside.entries_left l.outside.now + 32 * room (tree_of l.tree.now) + 15
+decreases-at_hand::call_three_words g l = 32032 * g.O.Outside.entries_left l.outside.now + 32 * room (tree_of l.tree.now) + 17
 
 abbrev pub decreases-at_hand::call_four_words : goal.decreases-at_hand::call_four_words
-decreases-at_hand::call_four_words g l = 32032 * g.O.Outside.entries_left l.outside.now + 32 * room (tree_of l.tree.now) + 15
+decreases-at_hand::call_four_words g l = 32032 * g.O.Outside.entries_left l.outside.now + 32 * room (tree_of l.tree.now) + 17
 
 abbrev pub decreases-at_hand::change_entry_or_call : goal.decreases-at_hand::change_entry_or_call
-decreases-at_hand::change_entry_or_call g l = 32032 * g.O.Outside.entries_left l.outside.now + 32 * room (tree_of l.tree.now) + 16
+decreases-at_hand::change_entry_or_call g l = 32032 * g.O.Outside.entries_left l.outside.now + 32 * room (tree_of l.tree.now) + 18
 
 abbrev pub decreases-at_hand::call_three_at_hand : goal.decreases-at_hand::call_three_at_hand
-decreases-at_hand::call_three_at_hand g l = 32032 * g.O.Outside.entries_left l.outside.now + 32 * room (tree_of l.tree.now) + 17
+decreases-at_hand::call_three_at_hand g l = 32032 * g.O.Outside.entries_left l.outside.now + 32 * room (tree_of l.tree.now) + 19
 
 abbrev pub decreases-at_hand::call_four_at_hand : goal.decreases-at_hand::call_four_at_hand
-decreases-at_hand::call_four_at_hand g l = 32032 * g.O.Outside.entries_left l.outside.now + 32 * room (tree_of l.tree.now) + 17
+decreases-at_hand::call_four_at_hand g l = 32032 * g.O.Outside.entries_left l.outside.now + 32 * room (tree_of l.tree.now) + 19
 
 abbrev pub decreases-at_hand::call_at_hand : goal.decreases-at_hand::call_at_hand
-decreases-at_hand::call_at_hand g l = 32032 * g.O.Outside.entries_left l.outside.now + 32 * room (tree_of l.tree.now) + 18
+decreases-at_hand::call_at_hand g l = 32032 * g.O.Outside.entries_left l.outside.now + 32 * room (tree_of l.tree.now) + 20
 
 abbrev pub decreases-words::call_with_value : goal.decreases-words::call_with_value
-decreases-words::call_with_value g l = 32032 * g.O.Outside.entries_left l.outside.now + 32 * room (tree_of l.tree.now) + 14
+decreases-words::call_with_value g l = 32032 * g.O.Outside.entries_left l.outside.now + 32 * room (tree_of l.tree.now) + 16
 
 abbrev pub decreases-words::change_to : goal.decreases-words::change_to
-decreases-words::change_to g l = 32032 * g.O.Outside.entries_left l.outside.now + 32 * room (tree_of l.tree.now) + 15
+decreases-words::change_to g l = 32032 * g.O.Outside.entries_left l.outside.now + 32 * room (tree_of l.tree.now) + 17
 
 abbrev pub decreases-words::change_by_part : goal.decreases-words::change_by_part
-decreases-words::change_by_part g l = 32032 * g.O.Outside.entries_left l.outside.now + 32 * room (tree_of l.tree.now) + 16
+decreases-words::change_by_part g l = 32032 * g.O.Outside.entries_left l.outside.now + 32 * room (tree_of l.tree.now) + 18
+
+abbrev pub decreases-words::change_by_parts : goal.decreases-words::change_by_parts
+decreases-words::change_by_parts g l = 32032 * g.O.Outside.entries_left l.outside.now + 32 * room (tree_of l.tree.now) + 18
 
 abbrev pub decreases-words::substitute_and_call : goal.decreases-words::substitute_and_call
-decreases-words::substitute_and_call g l = 32032 * g.O.Outside.entries_left l.outside.now + 32 * room (tree_of l.tree.now) + 17
+decreases-words::substitute_and_call g l = 32032 * g.O.Outside.entries_left l.outside.now + 32 * room (tree_of l.tree.now) + 19
 
 abbrev pub decreases-words::call_general : goal.decreases-words::call_general
-decreases-words::call_general g l = 32032 * g.O.Outside.entries_left l.outside.now + 32 * room (tree_of l.tree.now) + 16
+decreases-words::call_general g l = 32032 * g.O.Outside.entries_left l.outside.now + 32 * room (tree_of l.tree.now) + 18
 
 abbrev pub decreases-words::call_words : goal.decreases-words::call_words
-decreases-words::call_words g l = 32032 * g.O.Outside.entries_left l.outside.now + 32 * room (tree_of l.tree.now) + 19
+decreases-words::call_words g l = 32032 * g.O.Outside.entries_left l.outside.now + 32 * room (tree_of l.tree.now) + 21
 
 abbrev pub decreases-words::change_or_call : goal.decreases-words::change_or_call
-decreases-words::change_or_call g l = 32032 * g.O.Outside.entries_left l.outside.now + 32 * room (tree_of l.tree.now) + 20
+decreases-words::change_or_call g l = 32032 * g.O.Outside.entries_left l.outside.now + 32 * room (tree_of l.tree.now) + 22
 
 abbrev pub decreases-evaluation::eval_command : goal.decreases-evaluation::eval_command
-decreases-evaluation::eval_command g l = 32032 * g.O.Outside.entries_left l.outside.now + 32 * room (tree_of l.tree.now) + 21
+decreases-evaluation::eval_command g l = 32032 * g.O.Outside.entries_left l.outside.now + 32 * room (tree_of l.tree.now) + 23
 
 abbrev pub decreases-evaluation::eval_commands : goal.decreases-evaluation::eval_commands
-decreases-evaluation::eval_commands g l = 32032 * g.O.Outside.entries_left l.outside.now + 32 * room (tree_of l.tree.now) + 22
+decreases-evaluation::eval_commands g l = 32032 * g.O.Outside.entries_left l.outside.now + 32 * room (tree_of l.tree.now) + 24
 
 abbrev pub decreases-crossing::call_target : goal.decreases-crossing::call_target
 decreases-crossing::call_target g l = 32032 * g.O.Outside.entries_left l.outside.now + 32 * room (tree_of l.tree.now) + 0
@@ -149,7 +152,7 @@ abbrev pub decreases-crossing::invoke : goal.decreases-crossing::invoke
 decreases-crossing::invoke g l = 32032 * g.O.Outside.entries_left l.outside.now + 32 * room (tree_of l.tree.now) + 0
 
 abbrev pub decreases-crossing::invoke_at : goal.decreases-crossing::invoke_at
-decreases-crossing::invoke_at g l = 32032 * g.O.Outside.entries_left l.outside.now + 32 * room (tree_of l.tree.now) + 13
+decreases-crossing::invoke_at g l = 32032 * g.O.Outside.entries_left l.outside.now + 32 * room (tree_of l.tree.now) + 15
 
 abbrev pub decreases-crossing::serve_hidden : goal.decreases-crossing::serve_hidden
 decreases-crossing::serve_hidden g l = 32032 * g.O.Outside.entries_left l.outside.now + 32 * room (tree_of l.tree.now) + 2
@@ -158,22 +161,22 @@ abbrev pub decreases-crossing::serve_eval : goal.decreases-crossing::serve_eval
 decreases-crossing::serve_eval g l = 32032 * g.O.Outside.entries_left l.outside.now + 32 * room (tree_of l.tree.now) + 2
 
 abbrev pub decreases-commands::call_hidden : goal.decreases-commands::call_hidden
-decreases-commands::call_hidden g l = 32032 * g.O.Outside.entries_left l.outside.now + 32 * room (tree_of l.tree.now) + 12
+decreases-commands::call_hidden g l = 32032 * g.O.Outside.entries_left l.outside.now + 32 * room (tree_of l.tree.now) + 14
 
 abbrev pub decreases-interpreters::eval_in : goal.decreases-interpreters::eval_in
-decreases-interpreters::eval_in g l = 32032 * g.O.Outside.entries_left l.outside.now + 32 * room (tree_of l.tree.now) + 7
+decreases-interpreters::eval_in g l = 32032 * g.O.Outside.entries_left l.outside.now + 32 * room (tree_of l.tree.now) + 9
 
 abbrev pub decreases-interpreters::interp : goal.decreases-interpreters::interp
-decreases-interpreters::interp g l = 32032 * g.O.Outside.entries_left l.outside.now + 32 * room (tree_of l.tree.now) + 9
+decreases-interpreters::interp g l = 32032 * g.O.Outside.entries_left l.outside.now + 32 * room (tree_of l.tree.now) + 11
 
 abbrev pub decreases-interpreters::invoke_hidden : goal.decreases-interpreters::invoke_hidden
-decreases-interpreters::invoke_hidden g l = 32032 * g.O.Outside.entries_left l.outside.now + 32 * room (tree_of l.tree.now) + 7
+decreases-interpreters::invoke_hidden g l = 32032 * g.O.Outside.entries_left l.outside.now + 32 * room (tree_of l.tree.now) + 9
 
 abbrev pub decreases-interpreters::call_subcommand : goal.decreases-interpreters::call_subcommand
-decreases-interpreters::call_subcommand g l = 32032 * g.O.Outside.entries_left l.outside.now + 32 * room (tree_of l.tree.now) + 8
+decreases-interpreters::call_subcommand g l = 32032 * g.O.Outside.entries_left l.outside.now + 32 * room (tree_of l.tree.now) + 10
 
 abbrev pub decreases-children::child : goal.decreases-children::child
-decreases-children::child g l = 32032 * g.O.Outside.entries_left l.outside.now + 32 * room (tree_of l.tree.now) + 9
+decreases-children::child g l = 32032 * g.O.Outside.entries_left l.outside.now + 32 * room (tree_of l.tree.now) + 11
 
 abbrev pub invariant-evaluation::eval_commands-commands : goal.invariant-evaluation::eval_commands-commands
 invariant-evaluation::eval_commands-commands g l = record {
@@ -205,41 +208,50 @@ invariant-evaluation::substitute-parts g l = record {
 abbrev pub decreases-operands::eval_operand : goal.decreases-operands::eval_operand
 decreases-operands::eval_operand g l = 32032 * g.O.Outside.entries_left l.outside.now + 32 * room (tree_of l.tree.now) + 5
 
+abbrev pub decreases-operands::eval_leaf : goal.decreases-operands::eval_leaf
+decreases-operands::eval_leaf g l = 32032 * g.O.Outside.entries_left l.outside.now + 32 * room (tree_of l.tree.now) + 6
+
+abbrev pub decreases-expressions::compute_parts : goal.decreases-expressions::compute_parts
+decreases-expressions::compute_parts g l = 32032 * g.O.Outside.entries_left l.outside.now + 32 * room (tree_of l.tree.now) + 6
+
+abbrev pub decreases-expressions::compute_two : goal.decreases-expressions::compute_two
+decreases-expressions::compute_two g l = 32032 * g.O.Outside.entries_left l.outside.now + 32 * room (tree_of l.tree.now) + 7
+
 abbrev pub decreases-expressions::compute : goal.decreases-expressions::compute
-decreases-expressions::compute g l = 32032 * g.O.Outside.entries_left l.outside.now + 32 * room (tree_of l.tree.now) + 6
+decreases-expressions::compute g l = 32032 * g.O.Outside.entries_left l.outside.now + 32 * room (tree_of l.tree.now) + 8
 
 abbrev pub decreases-expressions::expression : goal.decreases-expressions::expression
-decreases-expressions::expression g l = 32032 * g.O.Outside.entries_left l.outside.now + 32 * room (tree_of l.tree.now) + 7
+decreases-expressions::expression g l = 32032 * g.O.Outside.entries_left l.outside.now + 32 * room (tree_of l.tree.now) + 9
 
 abbrev pub decreases-expressions::condition : goal.decreases-expressions::condition
-decreases-expressions::condition g l = 32032 * g.O.Outside.entries_left l.outside.now + 32 * room (tree_of l.tree.now) + 7
+decreases-expressions::condition g l = 32032 * g.O.Outside.entries_left l.outside.now + 32 * room (tree_of l.tree.now) + 9
 
 abbrev pub decreases-expressions::expr : goal.decreases-expressions::expr
-decreases-expressions::expr g l = 32032 * g.O.Outside.entries_left l.outside.now + 32 * room (tree_of l.tree.now) + 8
+decreases-expressions::expr g l = 32032 * g.O.Outside.entries_left l.outside.now + 32 * room (tree_of l.tree.now) + 10
 
 abbrev pub decreases-expressions::if_one : goal.decreases-expressions::if_one
-decreases-expressions::if_one g l = 32032 * g.O.Outside.entries_left l.outside.now + 32 * room (tree_of l.tree.now) + 8
+decreases-expressions::if_one g l = 32032 * g.O.Outside.entries_left l.outside.now + 32 * room (tree_of l.tree.now) + 10
 
 abbrev pub decreases-expressions::if_many : goal.decreases-expressions::if_many
-decreases-expressions::if_many g l = 32032 * g.O.Outside.entries_left l.outside.now + 32 * room (tree_of l.tree.now) + 8
+decreases-expressions::if_many g l = 32032 * g.O.Outside.entries_left l.outside.now + 32 * room (tree_of l.tree.now) + 10
 
 abbrev pub decreases-expressions::if_first : goal.decreases-expressions::if_first
-decreases-expressions::if_first g l = 32032 * g.O.Outside.entries_left l.outside.now + 32 * room (tree_of l.tree.now) + 9
+decreases-expressions::if_first g l = 32032 * g.O.Outside.entries_left l.outside.now + 32 * room (tree_of l.tree.now) + 11
 
 abbrev pub decreases-expressions::turn : goal.decreases-expressions::turn
-decreases-expressions::turn g l = 32032 * g.O.Outside.entries_left l.outside.now + 32 * room (tree_of l.tree.now) + 8
+decreases-expressions::turn g l = 32032 * g.O.Outside.entries_left l.outside.now + 32 * room (tree_of l.tree.now) + 10
 
 abbrev pub decreases-expressions::while_loop : goal.decreases-expressions::while_loop
-decreases-expressions::while_loop g l = 32032 * g.O.Outside.entries_left l.outside.now + 32 * room (tree_of l.tree.now) + 9
+decreases-expressions::while_loop g l = 32032 * g.O.Outside.entries_left l.outside.now + 32 * room (tree_of l.tree.now) + 11
 
 abbrev pub decreases-expressions::for_loop : goal.decreases-expressions::for_loop
-decreases-expressions::for_loop g l = 32032 * g.O.Outside.entries_left l.outside.now + 32 * room (tree_of l.tree.now) + 9
+decreases-expressions::for_loop g l = 32032 * g.O.Outside.entries_left l.outside.now + 32 * room (tree_of l.tree.now) + 11
 
-abbrev pub decreases-expressions::compute-parts : goal.decreases-expressions::compute-parts
-decreases-expressions::compute-parts g l = length l.kept.nodes.items - l.evaluation.next
+abbrev pub decreases-expressions::compute_parts-parts : goal.decreases-expressions::compute_parts-parts
+decreases-expressions::compute_parts-parts g l = length l.kept.nodes.items - l.evaluation.next
 
-abbrev pub invariant-expressions::compute-parts : goal.invariant-expressions::compute-parts
-invariant-expressions::compute-parts g l = record {
+abbrev pub invariant-expressions::compute_parts-parts : goal.invariant-expressions::compute_parts-parts
+invariant-expressions::compute_parts-parts g l = record {
   leads : (p : Path) (style : Integers) → IsAt l.fn.tree l.place p style → (text : List ℕ) → IsKept style text l.fn.kept →
       Leads (ways g.O.Outside.goes g.O.Outside.loses) style (tree_of l.fn.tree) l.fn.outside p (expression style text) (tree_of l.tree) l.outside (computed (from style l.kept.nodes.items l.evaluation.next l.evaluation.values.items) (settles style));
   here : IsHere l.fn.tree l.tree l.place;
@@ -273,19 +285,19 @@ invariant-expressions::for_loop-turns g l = record {
 -- Loops over lists, and scripts at another level.
 
 abbrev pub decreases-loops::foreach : goal.decreases-loops::foreach
-decreases-loops::foreach g l = 32032 * g.O.Outside.entries_left l.outside.now + 32 * room (tree_of l.tree.now) + 8
+decreases-loops::foreach g l = 32032 * g.O.Outside.entries_left l.outside.now + 32 * room (tree_of l.tree.now) + 10
 
 abbrev pub decreases-loops::walk_through : goal.decreases-loops::walk_through
-decreases-loops::walk_through g l = 32032 * g.O.Outside.entries_left l.outside.now + 32 * room (tree_of l.tree.now) + 7
+decreases-loops::walk_through g l = 32032 * g.O.Outside.entries_left l.outside.now + 32 * room (tree_of l.tree.now) + 9
 
 abbrev pub decreases-loops::dict_for : goal.decreases-loops::dict_for
-decreases-loops::dict_for g l = 32032 * g.O.Outside.entries_left l.outside.now + 32 * room (tree_of l.tree.now) + 8
+decreases-loops::dict_for g l = 32032 * g.O.Outside.entries_left l.outside.now + 32 * room (tree_of l.tree.now) + 10
 
 abbrev pub decreases-loops::dict : goal.decreases-loops::dict
-decreases-loops::dict g l = 32032 * g.O.Outside.entries_left l.outside.now + 32 * room (tree_of l.tree.now) + 9
+decreases-loops::dict g l = 32032 * g.O.Outside.entries_left l.outside.now + 32 * room (tree_of l.tree.now) + 11
 
 abbrev pub decreases-collecting::lmap : goal.decreases-collecting::lmap
-decreases-collecting::lmap g l = 32032 * g.O.Outside.entries_left l.outside.now + 32 * room (tree_of l.tree.now) + 8
+decreases-collecting::lmap g l = 32032 * g.O.Outside.entries_left l.outside.now + 32 * room (tree_of l.tree.now) + 10
 
 abbrev pub decreases-loops::uplevel : goal.decreases-loops::uplevel
 decreases-loops::uplevel g l = 32032 * g.O.Outside.entries_left l.outside.now + 32 * room (tree_of l.tree.now) + 2

@@ -128,8 +128,8 @@ impl Frames {
         }
     }
 
-    /// Sets a name with neither a colon nor a close parenthesis that the current frame doesn't have,
-    /// in that frame, or gives the value back where it has the name.
+    /// Sets a name with neither a colon nor a close parenthesis in the current frame, where that
+    /// doesn't have it, or gives the value back where it has.
     #[inline(always)]
     fn insert_near(
         &mut self,

@@ -155,8 +155,8 @@ impl Value {
     }
 
     /// Puts an element in the place of another in the list that it is kept as: in place where that
-    /// isn't shared. Says whether it did; where it didn't, nothing is changed, and the change is one
-    /// to be made otherwise.
+    /// isn't shared. Says whether it did; where it didn't, nothing is changed, and the change is
+    /// one to be made otherwise.
     pub fn replace_at(&mut self, alloc: Global, place: usize, value: &Value) -> bool
         ensures set { OnTrue result (AtList (list_of self.old)
             (λ list. (place < length list) × (self.new ≡ write (slice_set list place value.now)) ×

@@ -1,5 +1,4 @@
-use Rattle.std.proofs.Common.{◌≡◌, ap, sym, ◌∙◌, subst}
-use Rattle.std.specs.Prelude.{Ok}
+use Rattle.std.proofs.Common.{subst}
 use Rattle.std.proofs.lemmas.Result.{err_from_is_err_and}
 use Rattle.tcl_core.specs.Paths.{Text}
 use Rattle.tcl_run.specs.Ends.{IsFailure}
@@ -13,6 +12,5 @@ use Rattle.tcl_calls.proofs.walks.read_walk.Goals as goal
 pub returns-in_err-elements-2-clause-refused : goal.returns-in_err-elements-2-clause-refused
 returns-in_err-elements-2-clause-refused c =
     let p = err_from_is_err_and c.from_residual-in_err-elements-2.result c.from_residual-in_err-elements-2.ensures.1 in
-    let names : list_of c.args.names.now ≡ Ok c.in_ok-names-2.names = ap list_of (sym c.in_ok-names.ensures.cases) ∙ c.in_ok-names-2.ensures.read in
     at_err c.from_residual-in_err-elements-2.result c.in_err-elements-2.field-0.0 p.0 (IsFailure fault_message (list_of c.in_ok-elements.elements)) (MisreadsWalk c.args.form.now c.args.names.now c.args.elements.now) p.1 p.2 c.in_err-elements-2.ensures.read
-    (λ e h. misread_second c.args.form.now c.args.names.now c.args.elements.now c.in_ok-names-2.names e names (subst (λ (x : Text). IsFailure fault_message (list_of x) e) c.in_ok-elements.ensures.cases h))
+    (λ e h. misread_second c.args.form.now c.args.names.now c.args.elements.now c.in_ok-names.names e c.in_ok-names.ensures (subst (λ (x : Text). IsFailure fault_message (list_of x) e) c.in_ok-elements.ensures.cases h))

@@ -5,9 +5,9 @@ use Rattle.tcl_commands.specs.Named.{builtin_of, words_of}
 use Rattle.tcl_commands.specs.declared.named.VariableChange.{VariableChange}
 use Rattle.tcl_commands.proofs.named.change_variable.Goals as goal
 
-pub returns-in-Part-clause-acts : goal.returns-in-Part-clause-acts
-returns-in-Part-clause-acts c =
-    subst (λ (x : VariableChange). Acts c.args.tree.now c.args.place (λ style. program_of style (builtin_of x) (c.args.name.now ∷ words_of x)) c.set_part.new.tree c.set_part.result) (sym c.in-Part.is) c.set_part.ensures.acts
+pub returns-in-Derived-clause-acts : goal.returns-in-Derived-clause-acts
+returns-in-Derived-clause-acts c =
+    subst (λ (x : VariableChange). Acts c.args.tree.now c.args.place (λ style. program_of style (builtin_of x) (c.args.name.now ∷ words_of x)) c.set_derived.new.tree c.set_derived.result) (sym c.in-Derived.is) c.set_derived.ensures.acts
 
 pub returns-in-Raise-clause-acts : goal.returns-in-Raise-clause-acts
 returns-in-Raise-clause-acts c =

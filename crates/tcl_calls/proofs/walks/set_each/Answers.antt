@@ -9,7 +9,7 @@ use Rattle.tcl_tree.specs.TreeOf.{tree_of}
 use Rattle.tcl_calls.specs.Walks.{walks_at}
 use Rattle.tcl_calls.specs.declared.walks.Walk.{Walk}
 use Rattle.tcl_calls.proofs.Walking.{walk_on}
-use Rattle.tcl_calls.proofs.walks.set_walks.Goals as goal
+use Rattle.tcl_calls.proofs.walks.set_each.Goals as goal
 
 pub returns-in_err-set_walk-clause-set : goal.returns-in_err-set_walk-clause-set
 returns-in_err-set_walk-clause-set c =

@@ -9,7 +9,7 @@ use Rattle.tcl_run.specs.Runs.{IsLevel}
 use Rattle.tcl_tree.specs.Own.{Own}
 use Rattle.tcl_tree.specs.TreeOf.{tree_of, Names}
 use Rattle.tcl_calls.specs.Walks.{walks_at}
-use Rattle.tcl_calls.proofs.walks.set_walks.Given as goal
+use Rattle.tcl_calls.proofs.walks.set_each.Given as goal
 
 abbrev pub invariant-walks : goal.invariant-walks
 invariant-walks l = record {

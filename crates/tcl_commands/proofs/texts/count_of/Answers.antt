@@ -1,7 +1,7 @@
 use Rattle.tcl_words.specs.Limits.{counted}
 use Rattle.tcl_words.specs.Outcomes.{answer_text}
 use Rattle.tcl_commands.proofs.Short.{counted_fits, fits_at}
-use Rattle.tcl_commands.proofs.texts.characters_in.Goals as goal
+use Rattle.tcl_commands.proofs.texts.count_of.Goals as goal
 
 pub answer_value-requires : goal.answer_value-requires
 answer_value-requires c = fits_at (counted c.character_count.result) (answer_text c.in_ok-answer.answer) (counted_fits c.character_count.result) c.in_ok-answer.ensures

@@ -1,0 +1,12 @@
+use Rattle.std.proofs.Common.{rules, Some, FitsSigned, w64}
+use Rattle.std.proofs.lemmas.Int.{to_z-of_z}
+use Rattle.tcl_expression_evaluation.proofs.UnderWay.{number_read, values_applied}
+use Rattle.tcl_expression_evaluation.proofs.at_hand.number_of_values.Goals as goal
+
+pub returns : goal.returns
+returns c =
+    let fits : FitsSigned w64 c.in_ok-first.first = search rules in
+    let fits' : FitsSigned w64 c.in_ok-second.second = search rules in
+    let made = rw (to_z-of_z w64 c.in_ok-first.first fits, to_z-of_z w64 c.in_ok-second.second fits') at c.apply_to_numbers.ensures in
+    values_applied c.apply_to_numbers.result c.args.style c.args.operator c.args.left.now c.args.right.now c.in_ok-first.first c.in_ok-second.second
+    (number_read c.int.result (Some c.in_ok-first.first) _ c.in_ok-first.ensures.value c.int.ensures) (number_read c.int-2.result (Some c.in_ok-second.second) _ c.in_ok-second.ensures.value c.int-2.ensures) made
