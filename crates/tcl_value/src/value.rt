@@ -735,21 +735,39 @@ impl Value {
         self.text(alloc)
     }
 
-    /// The place that its text keeps (see [`Text::hint`]), where it is kept as a text alone: where
-    /// its reading as a script or as an expression, or the variable or the command that it names,
-    /// was found last. It says nothing of the text, and may be any: whoever takes it looks at what
+    /// The place that its text keeps (see [`Text::hint`]), where it is kept as one: where its
+    /// reading as a script or as an expression, or the variable or the command that it names, was
+    /// found last. It says nothing of the text, and may be any: whoever takes it looks at what
     /// stands there.
     pub fn place(&self) -> Option<usize> {
-        match &self.form {
-            Form::Text(text) => Some(text.hint()),
-            _ => None,
-        }
+        Some(self.as_text()?.hint())
     }
 
     /// Keeps a place with its text, for all values that share it.
     pub fn keep_place(&self, place: usize) {
-        if let Form::Text(text) = &self.form {
+        if let Some(text) = self.as_text() {
             text.set_hint(place);
+        }
+    }
+
+    /// Whether it is kept as a text whose list isn't at hand, so that [`Value::as_list`] would read
+    /// the text and keep what it spells. A hint, of which contracts say nothing.
+    #[inline]
+    pub fn wants_list(&self) -> bool {
+        match &self.form {
+            Form::Text(_) => true,
+            Form::Read(read) => read.list().is_none(),
+            Form::Empty | Form::Number(_) | Form::List(_) | Form::Dict(_) => false,
+        }
+    }
+
+    /// The same of its dict and [`Value::as_dict`].
+    #[inline]
+    pub fn wants_dict(&self) -> bool {
+        match &self.form {
+            Form::Text(_) => true,
+            Form::Read(read) => read.dict().is_none(),
+            Form::Empty | Form::Number(_) | Form::List(_) | Form::Dict(_) => false,
         }
     }
 }

@@ -190,7 +190,7 @@ impl Frames {
     ///
     /// # Errors
     /// Want of memory; refusals 232, 233 (of setting) and 238.
-    pub fn set_new(
+    fn set_new(
         &mut self,
         alloc: Global,
         name: &VariableName,
