@@ -735,17 +735,20 @@ impl Value {
         self.text(alloc)
     }
 
-    /// The place that its text keeps (see [`Text::hint`]), where it is kept as one: where its
-    /// reading as a script or as an expression, or the variable or the command that it names, was
-    /// found last. It says nothing of the text, and may be any: whoever takes it looks at what
+    /// The place that its text keeps (see [`Text::hint`]), where it is kept as a text alone: where
+    /// its reading as a script or as an expression, or the variable or the command that it names,
+    /// was found last. It says nothing of the text, and may be any: whoever takes it looks at what
     /// stands there.
     pub fn place(&self) -> Option<usize> {
-        Some(self.as_text()?.hint())
+        match &self.form {
+            Form::Text(text) => Some(text.hint()),
+            _ => None,
+        }
     }
 
     /// Keeps a place with its text, for all values that share it.
     pub fn keep_place(&self, place: usize) {
-        if let Some(text) = self.as_text() {
+        if let Form::Text(text) = &self.form {
             text.set_hint(place);
         }
     }
