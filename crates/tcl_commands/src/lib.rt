@@ -15,6 +15,7 @@ pub mod entries;
 pub mod exits;
 pub mod growing;
 pub mod inspection;
+pub mod keeping;
 pub mod links;
 pub mod lists;
 pub mod named;

@@ -80,7 +80,7 @@ module _ {S : Type 0} {ways : Ways S} (style : Integers) where
       (closing_goes style [] (element ∷ []) [] e.key text there closes completed)))
 
   -- the parts of a word at hand come to its text, whichever it is
-  word_stands_goes : {T : Tree Own} {o : S} {p : Path} {n : Node Own} (ps : List Part) (text : List ℕ) → T p ≡ Some n → WordStands n.own.chain.frames ps text → fits text ≡ true →
+  pub word_stands_goes : {T : Tree Own} {o : S} {p : Path} {n : Node Own} (ps : List Part) (text : List ℕ) → T p ≡ Some n → WordStands n.own.chain.frames ps text → fits text ≡ true →
       Proceeds ways (language style) T o p (parts ps [] []) T o (Some (Completed (ok text)))
   word_stands_goes ps text there (inl h) short = parts_go ps [] text there h short
   word_stands_goes ps text there (inr h) short = element_goes ps text there h short

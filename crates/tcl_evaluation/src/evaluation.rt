@@ -16,7 +16,8 @@ ghost use Rattle.tcl_prepared.specs.Views.{seen_command, seen_part, seen_word};
 ghost use Rattle.tcl_evaluation.specs.View.{PartGoes, PartBreaks};
 ghost use Rattle.tcl_evaluation.specs.Scripts.{read_so};
 
-use crate::hands::counted_at_hand;
+use crate::hands::{counted_at_hand, word_at_hand};
+use crate::keeping::keep_what_is_read;
 use crate::sums::count_sum;
 use crate::words::{call_literals, change_or_call, substitute_and_call};
 use std::alloc::Global;
@@ -136,7 +137,8 @@ pub fn eval_read<O: Outside>(
 }
 
 /// Evaluates a script in brackets that was read with the script around it, one level deeper. A sum
-/// or an answer that is at hand is only counted.
+/// or an answer that is at hand is only counted; a variable that an answer reads keeps what its text
+/// reads as.
 ///
 /// # Errors
 /// Those of a script.
@@ -158,6 +160,7 @@ fn eval_bracket<O: Outside>(
         count_sum(tree, alloc, outside, place)?;
         return Ok(value);
     }
+    keep_what_is_read(tree, alloc, place, bracket);
     eval_script(tree, alloc, outside, place, bracket.script())
 }
 
@@ -221,7 +224,7 @@ fn eval_command<O: Outside>(
     }
 }
 
-/// The text of a word.
+/// The text of a word. One whose parts are at hand is put together at once.
 ///
 /// # Errors
 /// 231 to 234 and 238 of variables; those of scripts; 122; want of memory.
@@ -244,7 +247,12 @@ pub(crate) fn eval_word<O: Outside>(
         PreparedWord::Literal(value) => Ok(known_short(value.clone()?)),
         PreparedWord::Name(name) => Ok(known_short(name.value()?)),
         PreparedWord::Lone(part) => eval_lone_part(tree, alloc, outside, place, part),
-        PreparedWord::Parts(parts) => substitute(tree, alloc, outside, place, parts.as_slice()),
+        PreparedWord::Parts(parts) => {
+            if let Some(value) = word_at_hand(tree, alloc, place, word) {
+                return Ok(value);
+            }
+            substitute(tree, alloc, outside, place, parts.as_slice())
+        }
         PreparedWord::Spread(parts) => substitute(tree, alloc, outside, place, parts.as_slice()),
     }
 }

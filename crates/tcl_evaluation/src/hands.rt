@@ -14,6 +14,7 @@ ghost use Rattle.tcl_evaluation.specs.Hands.{IsAnsweredIn, IsCountedIn, IsSumIn,
 ghost use Rattle.tcl_evaluation.specs.Hands.{PartStands, PartsStand, StandsFor, StandsPlainly};
 ghost use Rattle.tcl_evaluation.specs.Hands.{one_of};
 
+use itoa::Buffer;
 use std::alloc::{AllocError, Global};
 use tcl_calls::expressions::{expression_of_words, number_at};
 use tcl_calls::lookup::builtin_named;
@@ -151,11 +152,27 @@ fn held_at_hand(frames: &Frames, name: &Text) -> Option<Value>
     frames.get(name).ok()?.clone().ok()
 }
 
+/// What an element of an array holds over these frames, where the key is kept as a text or as a
+/// number. This takes no memory.
+fn element_by_key<'a>(frames: &'a Frames, array: &str, key: &Value) -> Option<&'a Value>
+    ensures { IfSome result (λ value. read frames.now.frames (element_text array.now key.now)
+        ≡ Ok value.now) }
+{
+    if let Some(text) = key.as_text() {
+        return frames.element(array, text.as_str());
+    }
+    let number = key.number()?;
+    frames.element(array, Buffer::new().format(number))
+}
+
 /// What an element of an array holds over these frames.
 fn held_element(frames: &Frames, alloc: Global, array: &str, key: &Value) -> Option<Value>
     ensures { IfSome result (λ value. read frames.now.frames (element_text array.now key.now)
         ≡ Ok value) }
 {
+    if let Some(value) = element_by_key(frames, array, key) {
+        return value.clone().ok();
+    }
     let name = element_name(alloc, array, key).ok()?;
     held_at_hand(frames, &name)
 }
@@ -229,7 +246,12 @@ pub(crate) fn value_at_hand(frames: &Frames, alloc: Global, word: &PreparedWord)
 
 /// What a word stands for in the interpreter, where its parts are texts and variables of the
 /// current frame, or it is an element of an array.
-fn word_at_hand(tree: &Tree, alloc: Global, place: Place, word: &PreparedWord) -> Option<Value>
+pub(crate) fn word_at_hand(
+    tree: &Tree,
+    alloc: Global,
+    place: Place,
+    word: &PreparedWord,
+) -> Option<Value>
     ensures { IfSome result (λ value. EndsIn tree.now place (seen_word word.now) false value) }
 {
     value_at_hand(frames_seen(tree, place)?, alloc, word)
@@ -282,6 +304,28 @@ fn answer_of(alloc: Global, style: Integers, builtin: Builtin, args: &[Value]) -
     }
 }
 
+/// Whether a word is one variable.
+fn is_variable(word: &PreparedWord) -> bool {
+    matches!(word, PreparedWord::Lone(PreparedPart::Variable(_)))
+}
+
+/// Whether a command reads the text of its first word, a variable, as a list that isn't kept. It
+/// isn't answered at once then, so that the variable keeps its list. A hint, of which contracts say
+/// nothing.
+fn reads_list_anew(builtin: Builtin, word: &PreparedWord, value: &Value) -> bool {
+    value.wants_list()
+        && is_variable(word)
+        && matches!(
+            builtin,
+            Builtin::Llength | Builtin::Lindex | Builtin::Lrange
+        )
+}
+
+/// The same of the second word and a dict.
+fn reads_dict_anew(builtin: Builtin, word: &PreparedWord, value: &Value) -> bool {
+    matches!(builtin, Builtin::Dict) && value.wants_dict() && is_variable(word)
+}
+
 /// The same of one to four words that are at hand over these frames.
 fn answer_of_words(
     frames: &Frames,
@@ -297,22 +341,43 @@ fn answer_of_words(
     match words {
         [first] => {
             let a = value_at_hand(frames, alloc, first)?;
+            if reads_list_anew(builtin, first, &a) {
+                return None;
+            }
             answer_of(alloc, style, builtin, &[a])
         }
         [first, second] => {
             let a = value_at_hand(frames, alloc, first)?;
+            if reads_list_anew(builtin, first, &a) {
+                return None;
+            }
             let b = value_at_hand(frames, alloc, second)?;
+            if reads_dict_anew(builtin, second, &b) {
+                return None;
+            }
             answer_of(alloc, style, builtin, &[a, b])
         }
         [first, second, third] => {
             let a = value_at_hand(frames, alloc, first)?;
+            if reads_list_anew(builtin, first, &a) {
+                return None;
+            }
             let b = value_at_hand(frames, alloc, second)?;
+            if reads_dict_anew(builtin, second, &b) {
+                return None;
+            }
             let c = value_at_hand(frames, alloc, third)?;
             answer_of(alloc, style, builtin, &[a, b, c])
         }
         [first, second, third, fourth] => {
             let a = value_at_hand(frames, alloc, first)?;
+            if reads_list_anew(builtin, first, &a) {
+                return None;
+            }
             let b = value_at_hand(frames, alloc, second)?;
+            if reads_dict_anew(builtin, second, &b) {
+                return None;
+            }
             let c = value_at_hand(frames, alloc, third)?;
             let d = value_at_hand(frames, alloc, fourth)?;
             answer_of(alloc, style, builtin, &[a, b, c, d])

@@ -17,6 +17,7 @@ mod expressions;
 pub mod hands;
 mod hosting;
 mod interpreters;
+mod keeping;
 mod list_parts;
 mod loops;
 mod operands;

@@ -11,6 +11,7 @@ pub mod KeyLemmas
 pub mod SameChains
 pub mod ArrayLemmas
 pub mod NearLemmas
+pub mod ElementLemmas
 pub mod EntryLemmas
 pub mod FewLemmas
 pub mod NameLemmas

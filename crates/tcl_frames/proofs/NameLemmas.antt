@@ -3,6 +3,7 @@ use Rattle.std.proofs.Common.{◌≡◌, ◌≢◌, ℕ, ◌+◌, ◌<◌, ◌�
 use Rattle.std.proofs.lemmas.Bool.Decides.{nat_tests}
 use Rattle.std.specs.Borrow.{Bor}
 use Rattle.std.specs.Option.{option_map, option_copied, MatchOption}
+use Rattle.tcl_frames.specs.VariableArrays.{element_name}
 use Rattle.tcl_frames.specs.Written.{seen_pair}
 use Rattle.tcl_frames.specs.Names.{Text, behind, closed, behind_first, opened, opened_in, element_of, name_of, name_or_element, of_level, is_plain, is_simple, has_colons, colons_after, after_colon, after_colon_in, after_colons}
 
@@ -251,3 +252,17 @@ simple_over s i l = ap is_simple (past s i l) ∙ simple_end
     past [] (suc i) l = refl
     past (b ∷ rest) zero l = absurd (omega arith)
     past (b ∷ rest) (suc i) l = past rest i (omega arith)
+
+begins_with : (a k : Text) → (a ++ (40 ∷ [])) ++ k ≡ a ++ (40 ∷ k)
+begins_with [] k = refl
+begins_with (b ∷ a) k = ap (λ r. b ∷ r) (begins_with a k)
+
+-- the name of an element of an array whose own name holds neither colons nor parentheses
+pub element_named : (a k : Text) → is_simple a ≡ true → ((i : ℕ) → i < length a → get_or a i 0 ≢ 40) → name_of (element_name a k) ≡ Some (record { is_global = false; base = a; key = Some k })
+unfolding name_of
+element_named a k simple unopened =
+    let x : Text = element_name a k in
+    let s : Text = (a ++ (40 ∷ [])) ++ k in
+    ap (λ o. name_or_element o x) (element_some x s (closed_at s) ∙ ap opened (begins_with a k) ∙ opened_at a k unopened)
+    ∙ ap (λ o. of_level o a (Some k)) (after_colons_none a (simple_leading a simple))
+    ∙ ap (λ t. cond t None (Some (record { is_global = false; base = a; key = Some k }))) (simple_colons false a simple)

@@ -6,6 +6,7 @@ ghost use Rattle.std.specs.Vec.{vec_capacity};
 ghost use Rattle.std.specs.Prelude.{reverse, nat_lt, ◌↔◌, IsTrue};
 ghost use Rattle.tcl_frames.specs.Chain.{least};
 
+mod elements;
 mod hints;
 
 use crate::access::Part;

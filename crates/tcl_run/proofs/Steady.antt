@@ -28,7 +28,7 @@ use Rattle.tcl_tree.proofs.WayLemmas.{follow_stood, gone_some}
 use Rattle.tcl_core.specs.Runs.{gone}
 use Rattle.tcl_tree.specs.declared.tree.Tree.{Tree as Table}
 use Rattle.tcl_tree.specs.declared.tree.Place.{Place as TablePlace}
-use Rattle.tcl_run.specs.Runs.{meters_of, meters_at, depth_in, depth_at, steps_at, is_root, InUse, IsCounted, IsHeld, IsHere, IsSteady, IsLevel, IsAt, IsRunning, room}
+use Rattle.tcl_run.specs.Runs.{meters_of, meters_at, depth_in, depth_at, steps_at, is_root, InUse, IsCounted, IsHeld, IsHere, IsSteady, IsLevel, IsAt, IsRunning, IsThere, room}
 use Rattle.tcl_text.specs.declared.integer.Integers.{Integers}
 use Rattle.tcl_frames.specs.Chain.{Chain}
 use Rattle.tcl_language.specs.Instructions.{with_chain}
@@ -504,6 +504,14 @@ module _ (s t u : Table) (place : TablePlace) (p : Path) (named : Names s place 
 
 pub level_held : (s t : Table) (p : Path) → IsLevel s t → IsHeld s t p
 level_held s t p l = record { counts = λ a b k is at there. l.counts a }
+
+-- who is held while more is done behind a change of own parts is held from before that
+pub held_behind : (s t u : Table) (p : Path) → IsLevel s t → IsHeld t u p → IsHeld s u p
+held_behind s t u p l h = record { counts = λ a b k is at there. let x = l.counts a in let y = h.counts a b k is (l.keys a ∙ at) there in omega arith }
+
+-- who is there is there behind such a change
+pub level_there : (s t : Table) (place : TablePlace) (p : Path) (style : Integers) → IsLevel s t → IsThere s place p style → IsThere t place p style
+level_there s t place p style l at = record { names = l.keys p ∙ at.names; style_is = ap (λ m. m.integers) l.marks ∙ at.style_is }
 
 -- an own part that becomes what it was leaves the tree as it was
 pub changed_same : (T : Tree Own) (p : Path) (n : Node Own) → T p ≡ Some n → effect p (Changed n.own) T ≡ T

@@ -20,8 +20,8 @@ use Rattle.tcl_calls.specs.Words.{EndsBy, opens}
 use Rattle.tcl_parser.specs.Words.{WordRead}
 use Rattle.tcl_language.specs.Instructions.{fits, Open}
 use Rattle.tcl_run.proofs.Endings.{IfEnded-at, Interrupts-more, Interrupts-at}
-use Rattle.tcl_run.proofs.Proceeding.{at_finish, at_prog, at_reply}
-use Rattle.tcl_run.proofs.Steady.{called_here, here-refl, here-trans, still_at, still_named, still_running, steady-trans, steady_holds, level_here, level_steady, nested_here, nested_holds, nested_innermost, nested_steady, nested_held, level_held, level-refl, same_level, begun_at, less_room, stands}
+use Rattle.tcl_run.proofs.Proceeding.{at_finish, at_prog, at_reply, at_start}
+use Rattle.tcl_run.proofs.Steady.{called_here, here-refl, here-trans, still_at, still_named, still_running, steady-trans, steady_holds, held_behind, level_here, level_steady, level_there, nested_here, nested_holds, nested_innermost, nested_steady, nested_held, level_held, level-refl, same_level, begun_at, less_room, stands}
 use Rattle.tcl_run.proofs.Keeping.{keeps-refl, keeps-trans, level_keeps, charged_keeps, told_keeps}
 use Rattle.tcl_evaluation.proofs.Steps
 use Rattle.tcl_evaluation.proofs.Steps.{stays_of, EndsFrom, TextEnds, text_ends, VariableEnds, variable_ends, EndsAt, appended, forgets, both}
@@ -62,7 +62,7 @@ use Rattle.tcl_calls.proofs.Reached.{never_outside}
 use Rattle.tcl_core.specs.Programs.Prog.{done}
 use Rattle.tcl_language.specs.Interpreters.{asks_at}
 use Rattle.tcl_language.specs.Words.{concat}
-use Rattle.tcl_run.specs.Runs.{IsAt, IsHere}
+use Rattle.tcl_run.specs.Runs.{IsAt, IsHere, room}
 use Rattle.tcl_run.proofs.Proceeding.{grows, outgrows}
 use Rattle.tcl_evaluation.proofs.Entered.{asks_another, asks_here, hidden_global, hidden_here, hidden_stops, hidden_settles}
 use Rattle.tcl_evaluation.proofs.Staying.{here_caught, here_collected, here_err, here_in, here_left, here_left_file, here_level, here_passed, here_settled, here_text, here_then, here_turned, uncaught, unmoved}
@@ -1076,10 +1076,30 @@ evaluation::eval_bracket-returns-in-Some-clause-runs g t c = λ q style at.
 
 pub evaluation::eval_bracket-returns-clause-runs : goal.evaluation::eval_bracket-returns-clause-runs
 evaluation::eval_bracket-returns-clause-runs g t c =
+    let kept = c.keep_what_is_read in
     IfRan-more c.eval_script.result
-    (EndsAt (ways g.O.Outside.goes g.O.Outside.loses) c.args.tree.now c.args.outside.now c.args.place (λ style. read_so c.script-2.result.now) c.eval_script.new.tree c.eval_script.new.outside)
+    (EndsAt (ways g.O.Outside.goes g.O.Outside.loses) kept.new.tree c.args.outside.now c.args.place (λ style. read_so c.script-2.result.now) c.eval_script.new.tree c.eval_script.new.outside)
     (EndsAt (ways g.O.Outside.goes g.O.Outside.loses) c.args.tree.now c.args.outside.now c.args.place (λ style. script c.args.bracket.now) c.eval_script.new.tree c.eval_script.new.outside)
-    (λ e h q style at. at_prog (ap read_so (sym c.script-2.ensures)) (h q style at)) c.eval_script.ensures.runs
+    (λ e h q style at. at_start kept.ensures.same (at_prog (ap read_so (sym c.script-2.ensures)) (h q style (level_there c.args.tree.now kept.new.tree c.args.place q style kept.ensures.level at)))) c.eval_script.ensures.runs
+
+pub evaluation::eval_bracket-returns-clause-held : goal.evaluation::eval_bracket-returns-clause-held
+evaluation::eval_bracket-returns-clause-held g t c = λ q at.
+    let level = c.keep_what_is_read.ensures.level in
+    held_behind c.args.tree.now c.keep_what_is_read.new.tree c.eval_script.new.tree q level (c.eval_script.ensures.held q (level.keys q ∙ at))
+
+pub evaluation::eval_bracket-returns-clause-here : goal.evaluation::eval_bracket-returns-clause-here
+evaluation::eval_bracket-returns-clause-here g t c =
+    let kept = c.keep_what_is_read in
+    here_then c.eval_script.result c.args.tree.now kept.new.tree c.eval_script.new.tree c.args.place (level_here c.args.tree.now kept.new.tree c.args.place kept.ensures.level) c.eval_script.ensures.here
+
+pub evaluation::eval_bracket-returns-clause-keeps : goal.evaluation::eval_bracket-returns-clause-keeps
+evaluation::eval_bracket-returns-clause-keeps g t c = keeps-trans (level_keeps _ c.keep_what_is_read.ensures.level) c.eval_script.ensures.keeps
+
+pub evaluation::eval_bracket-eval_script-requires : goal.evaluation::eval_bracket-eval_script-requires
+evaluation::eval_bracket-eval_script-requires g t c κs within =
+    let kept = c.keep_what_is_read.ensures in
+    let same : room (tree_of c.keep_what_is_read.new.tree) ≡ room (tree_of c.args.tree.now) = ap room kept.same in
+    (search rules, (search rules, (c.requires.0, kept.level.keys c.requires.0 ∙ c.requires.1)))
 
 pub evaluation::eval_text-returns-in_err-script-clause-runs : goal.evaluation::eval_text-returns-in_err-script-clause-runs
 evaluation::eval_text-returns-in_err-script-clause-runs g t c =
