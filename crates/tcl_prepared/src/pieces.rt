@@ -44,7 +44,7 @@ fn words_pieces(words: &[PreparedWord]) -> usize {
     pieces
 }
 
-/// Those of the words of a command, and of the list that one of them keeps.
+/// Those of the words of a command, and of the lists and dicts that some of them keep.
 fn all_pieces(alloc: Global, command: &PreparedCommand) -> usize {
     match command {
         PreparedCommand::Constant(literals) => {
@@ -64,7 +64,7 @@ fn command_pieces(alloc: Global, command: &PreparedCommand) -> usize {
 }
 
 /// The pieces of commands: their own number, and their words and parts, with the pieces of what
-/// stands in their brackets and of the lists that literals keep.
+/// stands in their brackets and of the lists and dicts that literals keep.
 pub(crate) fn commands_pieces(alloc: Global, commands: &[PreparedCommand]) -> usize {
     let mut pieces: usize = 0;
     'commands: for command in commands {

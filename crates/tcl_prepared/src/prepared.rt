@@ -271,8 +271,8 @@ impl Prepared {
     }
 
     /// How many pieces it is made of: its commands, words and parts, with those of the scripts in
-    /// its brackets, and the elements of lists that literals keep. A piece takes at most 120 bytes
-    /// and the bytes of its text.
+    /// its brackets, and the lists and dicts that literals keep with what is in them. A piece takes
+    /// at most 120 bytes and the bytes of its text.
     pub fn pieces(&self) -> usize {
         self.pieces
     }

@@ -1,5 +1,6 @@
 //! Elements of arrays that are found by the array's name and the key, without a name `a(k)`.
-ghost use Rattle.std.specs.Prelude.{◌≡◌, ◌≢◌, ◌<◌, ℕ, List, true, Ok, IfSome, IsTrue, get_or, length};
+ghost use Rattle.std.specs.Prelude.{◌≡◌, ◌≢◌, ◌<◌, ℕ, List, true, Ok, IfSome, IsTrue, get_or};
+ghost use Rattle.std.specs.Prelude.{length};
 ghost use Rattle.std.specs.Option.{option_copied};
 ghost use Rattle.tcl_frames.specs.Access.{value_of};
 ghost use Rattle.tcl_frames.specs.Chain.{read};
