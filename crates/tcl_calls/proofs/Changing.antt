@@ -27,7 +27,7 @@ colons_same true [] = refl
 colons_same false [] = refl
 colons_same before (b ∷ rest) = ap (λ (d : Bool). (before && (b == 58)) || d) (colons_same (b == 58) rest)
 
-has_same : (x : Text) → has_colons x ≡ changes.has_colons x
+pub has_same : (x : Text) → has_colons x ≡ changes.has_colons x
 has_same x = colons_same false x
 
 pub is_name_same : (x : Text) → is_name x ≡ changes.is_name x

@@ -1,6 +1,5 @@
 -- Words in which no two colons stand side by side.
-use Rattle.std.proofs.Common.{◌==◌, ◌||◌, ◌≡◌, ℕ, Bool, true, false, if◌then◌else◌, [], ◌∷◌, Some, None, cond, refl, ap, ◌∙◌, ◌&&◌, eqb, arith}
-use Rattle.std.proofs.lemmas.Bool.Decides.{nat_tests}
+use Rattle.std.proofs.Common.{◌==◌, ◌||◌, ◌≡◌, ℕ, Bool, true, false, if◌then◌else◌, [], ◌∷◌, Some, None, cond, refl, ap, ◌∙◌, ◌&&◌}
 use Rattle.std.specs.Prelude.{Option, Ok}
 use Rattle.tcl_core.specs.Paths.{Text}
 use Rattle.tcl_core.specs.Trees.{Node}
@@ -42,14 +41,3 @@ kept_whole x h = ap (of_global x) (none_leading x h) ∙ ap (λ b. cond b None (
 -- and that command is found
 pub found_kept : (n : Node Own) (word : Text) (command : Command) → has_colons word ≡ false → command_in n.own word ≡ Some command → found n word ≡ Ok command
 found_kept n word command plain there = ap (λ (name : Option Text). kept_as name word n.own.commands) (kept_whole word plain) ∙ ap (or_missing (invalid_command word)) there
-
--- a byte that is no colon
-eqb_same : (d c : ℕ) → eqb d c ≡ true → d ≡ c
-eqb_same d c h = grind (arith, nat_tests)
-
-pub not_colon : (b : ℕ) → (b ≡ 58 → ⊥) → eqb b 58 ≡ false
-not_colon b h = by (eqb b 58) (eqb_same b 58)
-  where
-    by : (t : Bool) → (t ≡ true → b ≡ 58) → t ≡ false
-    by true f = absurd (h (f refl))
-    by false f = refl

@@ -1,6 +1,5 @@
 //! The commands that words name.
-ghost use Rattle.std.specs.Prelude.{◌≡◌, IfOk, IfSome, Some, None, Ok, IsTrue, false};
-ghost use Rattle.tcl_frames.specs.Names.{has_colons};
+ghost use Rattle.std.specs.Prelude.{◌≡◌, IfOk, IfSome, Some, None, Ok};
 ghost use Rattle.tcl_core.specs.Paths.{Path};
 ghost use Rattle.tcl_core.specs.Trees as core;
 ghost use Rattle.tcl_interpreter.specs.declared.command.Command.TheVariants as variant;
@@ -49,29 +48,14 @@ pub fn kept_name(alloc: Global, word: &Value) -> Result<Option<Text>, AllocError
     }
 }
 
-/// Whether a name has no colon at all, as those of most commands: that is told in less time than
-/// whether two stand side by side.
-fn has_no_colon(name: &str) -> bool
-    ensures { IsTrue result → has_colons name.now ≡ false }
-{
-    for b in name.as_bytes() {
-        if *b == b':' {
-            return false;
-        }
-    }
-    true
-}
-
-/// The command that a word without a colon names in the interpreter, where it stands at the place
-/// that the word keeps. This takes no memory.
+/// The command that a word names in the interpreter, where it stands at the place that the word
+/// keeps. The word isn't read: no command there has two colons side by side in its name. This takes
+/// no memory.
 fn standing<'t>(tree: &'t Tree, place: Place, word: &Value) -> Option<&'t Command>
     ensures { IfSome result (λ command. (p : Path) (n : core.Node Own) → Names tree.now place p →
         tree_of tree.now p ≡ Some n → found n word.now ≡ Ok command.now) }
 {
-    let (name, command) = tree.command_kept(place, word)?;
-    if !has_no_colon(name.as_str()) {
-        return None;
-    }
+    let command = tree.command_kept(place, word)?;
     Some(command)
 }
 

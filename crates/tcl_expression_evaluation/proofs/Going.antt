@@ -90,3 +90,10 @@ nests n d e h = omega (arith, ap deeper_of h, one_more n d)
 pub two_steps : (style : Integers) (l r : Leaf) (o : BinaryOperator) → from style (steps_of_two l o r) 0 [] ≡ operand l (λ x. operand r (λ y. and_then (apply_binary style o x y) value))
 unfolding goes
 two_steps style l r o = refl
+
+-- a step that is left out, with those behind it
+pub left_next : (style : Integers) (code more : List Node) (n : Node) (d : ℕ) (m : Mode) (s : List Bytes) → code ≡ n ∷ more → passed n d ≡ m → goes style code (leaving d) s ≡ goes style more m s
+left_next style code more n d m s is to = ap (λ c. goes style c (leaving d) s) is ∙ goes_leaving style n more d s ∙ ap (λ m. goes style more m s) to
+
+pub left_nothing : (style : Integers) (code : List Node) (d : ℕ) (s : List Bytes) → code ≡ [] → goes style code (leaving d) s ≡ goes style code doing s
+left_nothing style code d s is = ap (λ c. goes style c (leaving d) s) is ∙ goes_nil style (leaving d) s ∙ sym (goes_nil style doing s) ∙ ap (λ c. goes style c doing s) (sym is)

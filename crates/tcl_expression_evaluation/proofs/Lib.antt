@@ -11,5 +11,6 @@ pub mod Worked
 pub mod Digitwise
 pub mod Numbers
 pub mod Truths
+pub mod FirstNumbers
 pub mod Lists
 pub mod Characters

@@ -99,3 +99,7 @@ pub truth_of_number : (style : Integers) (a : List ℕ) (n : ℤ) → FitsSigned
 truth_of_number style a n f h = let some = some_read (integer_of style a) n h in
     let none : word_truth a ≡ None = integer_is_no_word style a some.0 some.1 in
     ap (λ o. truth_read a (word_or_number o (int_of style a))) none ∙ ap (λ r. truth_read a (number_truth r)) h ∙ ap Ok (not_zero n f)
+
+-- a number is true where it isn't 0
+pub truth_told : (style : Integers) (a : List ℕ) (n : ℤ) (none : Bool) → FitsSigned w64 n → nat_eq (of_z w64 n) 0 ≡ none → int_of style a ≡ Ok n → truth style a ≡ Ok (not none)
+truth_told style a n none f e h = truth_of_number style a n f h ∙ ap (λ t. Ok (not t)) e

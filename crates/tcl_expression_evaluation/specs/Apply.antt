@@ -158,6 +158,12 @@ abbrev pub or_else : Integers → Bool → Bytes → Outcome
 or_else style true b = Ok (answer true)
 or_else style false b = truth style b >>= λ y. Ok (answer y)
 
+abbrev pub both : Integers → Bytes → Bytes → Outcome
+both style a b = truth style a >>= λ x. and_then style x b
+
+abbrev pub either : Integers → Bytes → Bytes → Outcome
+either style a b = truth style a >>= λ x. or_else style x b
+
 abbrev pub apply_kind : Integers → BinaryOperator → Kind → Bytes → Bytes → Outcome
 apply_kind style o (kind.Arithmetic k) a b = arithmetic style o k a b
 apply_kind style o (kind.Comparison c) a b = compared style c a b
@@ -165,8 +171,8 @@ apply_kind style o kind.SameText a b = Ok (answer (bytes_eq a b))
 apply_kind style o kind.OtherText a b = Ok (answer (not (bytes_eq a b)))
 apply_kind style o kind.Within a b = among a b >>= λ y. Ok (answer y)
 apply_kind style o kind.Without a b = among a b >>= λ y. Ok (answer (not y))
-apply_kind style o kind.And a b = truth style a >>= λ x. and_then style x b
-apply_kind style o kind.Or a b = truth style a >>= λ x. or_else style x b
+apply_kind style o kind.And a b = both style a b
+apply_kind style o kind.Or a b = either style a b
 
 abbrev pub apply_binary : Integers → BinaryOperator → Bytes → Bytes → Outcome
 apply_binary style o a b = apply_kind style o (kind_of o) a b

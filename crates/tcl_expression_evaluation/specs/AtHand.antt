@@ -1,6 +1,6 @@
 -- What an expression comes to where each of its operands is at hand: a literal, or a variable that
 -- holds a value.
-use Rattle.std.specs.Prelude.{◌≡◌, Bool, true, false, nat_le, length, List, [], ◌∷◌, ◌++◌, ℤ}
+use Rattle.std.specs.Prelude.{◌≡◌, Bool, true, false, nat_le, length, List, [], ◌∷◌, ◌++◌, ℤ, ◌≤◌}
 use Rattle.std.specs.Prelude.{Option, Some, None, Result, Ok, Err}
 use Rattle.std.specs.Fmt.{signed_decimal}
 use Rattle.tcl_text.specs.declared.integer.Integers.{Integers}
@@ -16,7 +16,8 @@ use Rattle.tcl_expr.specs.declared.token.Leaf.{Leaf}
 use Rattle.tcl_expr.specs.declared.tree.Node.{Node}
 use Rattle.tcl_expr.specs.declared.tree.Node.TheVariants as node
 use Rattle.tcl_expression_evaluation.specs.Computations.{Computation, value, refused, substitute}
-use Rattle.tcl_expression_evaluation.specs.Steps.{Mode, doing, does, from}
+use Rattle.tcl_expression_evaluation.specs.Computations.{needing}
+use Rattle.tcl_expression_evaluation.specs.Steps.{from}
 
 -- ## Values at hand
 
@@ -84,12 +85,36 @@ ReadAs style [] (n ∷ numbers) = Prim.⊥
 ReadAs style (text ∷ texts) [] = Prim.⊥
 ReadAs style (text ∷ texts) (n ∷ numbers) = (int_of style text ≡ Ok n) × ReadAs style texts numbers
 
--- a step makes a text of the number n, behind those that stay
-pub record Brings (frames : Levels) (style : Integers) (node : Node) (texts : List Bytes)
-    (numbers : List ℤ) (n : ℤ) : Type 0 where
-  pub text : Bytes
-  pub before : List Bytes
-  pub reads : int_of style text ≡ Ok n
-  pub stay : ReadAs style before numbers
-  pub goes_on : (k : Mode → List Bytes → Computation) → comes_to frames (does style node texts k) ≡
-      comes_to frames (k doing (before ++ text ∷ []))
+-- Behind a text, steps come to what those that are left of them come to behind one that reads as
+-- the number n, whatever waits before it.
+pub record Reduces (frames : Levels) (style : Integers) (text : Bytes) (code rest : List Node)
+    (n : ℤ) : Type 0 where
+  pub last : Bytes
+  pub reads : int_of style last ≡ Ok n
+  pub same : (before : List Bytes) → comes_to frames (from style code 0 (before ++ text ∷ [])) ≡
+      comes_to frames (from style rest 0 (before ++ last ∷ []))
+  pub fewer : length rest ≤ length code
+
+-- Behind texts that wait, steps come to what those that are left of them come to behind texts that
+-- read as these numbers.
+pub record Follows (frames : Levels) (style : Integers) (texts : List Bytes)
+    (code rest : List Node) (numbers : List ℤ) : Type 0 where
+  pub waiting : List Bytes
+  pub wait : ReadAs style waiting numbers
+  pub same : comes_to frames (from style code 0 texts) ≡ comes_to frames
+      (from style rest 0 waiting)
+
+-- a step, and maybe some of those behind it, make the second numbers of the first
+abbrev pub DoesStep : Levels → Integers → Node → List Node → List Node → List ℤ → List ℤ → Type 0
+DoesStep frames style step more rest numbers others = (texts : List Bytes) →
+    ReadAs style texts numbers → Follows frames style texts (step ∷ more) rest others
+
+-- the number that stands for both operands of an operator, where the first is this one; or none,
+-- and the second operand is needed
+abbrev pub IsDecided : BinaryOperator → ℤ → Option ℤ → Type 0
+IsDecided operator x (Some n) = (style : Integers) (a : Bytes) → int_of style a ≡ Ok x →
+    (second : Computation) (next : Bytes → Computation) →
+    needing style operator a second next ≡ next (signed_decimal n)
+IsDecided operator x None = (style : Integers) (a : Bytes) → int_of style a ≡ Ok x →
+    (second : Computation) (next : Bytes → Computation) →
+    needing style operator a second next ≡ second

@@ -364,7 +364,7 @@ fn apply_call(
 
 /// How many marks stand between a step that is left out, where so many stood before it, and the one
 /// that ends what isn't needed. None where that is this step.
-fn passed(node: &Node, depth: usize) -> Option<usize>
+pub(crate) fn passed(node: &Node, depth: usize) -> Option<usize>
     requires { depth < 2 ^ 63 }
     ensures { passed node.now depth ≡ mode_of result }
 {

@@ -4,3 +4,4 @@ pub mod TableLemmas
 pub mod AliasLemmas
 pub mod LastNames
 pub mod SameLemmas
+pub mod PlainLemmas

@@ -4,8 +4,9 @@ use Rattle.std.specs.Map.{remove_entry}
 use Rattle.indexmap.specs.IndexMap.{insert_entry}
 use Rattle.std.specs.Prelude.{ℕ, Bool, true, false, List, [], ◌∷◌, ◌==◌, ◌&&◌, ◌||◌, not, Option}
 use Rattle.std.specs.Prelude.{Some}
+use Rattle.std.specs.List.{list_all}
 use Rattle.tcl_interpreter.specs.Paths.{Text}
-use Rattle.tcl_interpreter.specs.Own.{Own}
+use Rattle.tcl_interpreter.specs.Own.{Own, CommandMap}
 use Rattle.tcl_interpreter.specs.declared.command.Command.{Command}
 use Rattle.tcl_interpreter.specs.declared.command.Command.TheVariants.{Alias, Child}
 
@@ -33,6 +34,10 @@ without_command n own = record own { commands = remove_entry (bytes_eq n) own.co
 -- a name that commands can have: no two colons stand side by side in it
 abbrev pub is_command_name : Text → Bool
 is_command_name n = not (has_colons n)
+
+-- all names of these commands are such names
+abbrev pub have_plain_names : CommandMap → Bool
+have_plain_names = list_all (λ e. is_command_name e.0)
 
 abbrev pub is_child : Option Command → Bool
 is_child (Some Child) = true

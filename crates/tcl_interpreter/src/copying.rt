@@ -27,6 +27,7 @@ impl State {
         Ok(State {
             safe: self.safe,
             root: self.root,
+            knows_plain_names: self.knows_plain_names,
             count: self.count,
             limit: self.limit,
             depth: self.depth,

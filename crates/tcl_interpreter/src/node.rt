@@ -1,5 +1,6 @@
 //! An interpreter in the table.
-ghost use Rattle.std.specs.Prelude.{◌≡◌, ◌≤◌, IfOk};
+ghost use Rattle.std.specs.Prelude.{◌≡◌, ◌≤◌, IfOk, IsTrue};
+ghost use Rattle.tcl_interpreter.specs.Names.{have_plain_names};
 
 use crate::builtin::{HOST, LANGUAGE, add_builtins};
 use crate::command::Commands;
@@ -29,6 +30,9 @@ pub struct State {
     pub safe: bool,
     /// Whether it is the root of the tree in which it was made.
     pub root: bool,
+    /// Whether it is known that no name of its commands has two colons side by side. Then a name
+    /// that is found among them needs no look for colons.
+    pub knows_plain_names: bool,
     /// The steps that were made in it and below it.
     pub count: u64,
     /// The most steps that may be made in it and below it, where that is limited.
@@ -45,6 +49,7 @@ pub struct State {
     pub hidden: Commands,
     pub ghost least: { 1 ≤ depth_limit },
     pub ghost most: { depth_limit ≤ 1000 },
+    pub ghost plain: { IsTrue knows_plain_names → IsTrue (have_plain_names commands.entries) },
 }
 
 impl State {
@@ -72,6 +77,7 @@ impl State {
         Ok(State {
             safe,
             root,
+            knows_plain_names: true,
             count: 0,
             limit: None,
             depth: 0,

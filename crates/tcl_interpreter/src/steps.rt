@@ -1,14 +1,16 @@
 //! Steps on the nodes alone.
 ghost use Rattle.std.specs.Prelude.{◌≡◌, ◌≢◌, ◌<◌, ◌++◌, ◌∷◌, [], List, ℕ, cond, Some, None};
-ghost use Rattle.std.specs.Prelude.{OnOk, IfOk, IfSome, IsSome};
+ghost use Rattle.std.specs.Prelude.{OnOk, IfOk, IfSome, IsSome, ◌&&◌};
 ghost use Rattle.std.specs.Str.{bytes_eq};
 ghost use Rattle.slab.specs.Slab.{get, HasRoomFor};
 ghost use Rattle.indexmap.specs.IndexMap as map;
 ghost use Rattle.tcl_interpreter.specs.declared.node.Node.{Node};
+ghost use Rattle.tcl_interpreter.specs.Names.{is_command_name};
 ghost use Rattle.tcl_interpreter.specs.Nodes.{SameTable, Attached, Joined, Detached, shape_of};
 ghost use Rattle.tcl_interpreter.specs.Nodes.{Departed, Eased, view_of, with_child, without_child};
 
 use crate::command::Command;
+use crate::name::is_command_name;
 use crate::node::Node;
 use slab::Slab;
 use std::alloc::AllocError;
@@ -39,6 +41,13 @@ pub fn make_room(nodes: &mut Slab<Node>, key: usize) -> Result<(), AllocError>
     }
 }
 
+// Whether all names are known to be plain still, where this one comes to them.
+fn still_plain(plain: bool, name: &Text) -> bool
+    ensures { result ≡ (plain && is_command_name name.now) }
+{
+    plain && is_command_name(name)
+}
+
 // Adds the key of a child under its name, and its command, where there is room.
 fn add_child(up: &mut Node, label: Text, twin: Text, key: usize)
     requires same { twin ≡ label }
@@ -56,6 +65,7 @@ fn add_child(up: &mut Node, label: Text, twin: Text, key: usize)
         ≡ cond (bytes_eq label q) (Some key) (map.get bytes_eq up.old.children q) }
 {
     let _ = up.children.insert(label, key);
+    up.state.knows_plain_names = still_plain(up.state.knows_plain_names, &twin);
     let _ = up.state.commands.insert(twin, Command::Child);
 }
 

@@ -26,16 +26,14 @@ fn standing<'a>(commands: &'a Commands, place: usize, name: &Text) -> Option<&'a
     None
 }
 
-/// The command that a word names, where it stands at the place that the word's text keeps, with its
-/// name as it stands there.
-fn kept<'a>(commands: &'a Commands, word: &Value) -> Option<(&'a Text, &'a Command)>
-    ensures name { IfSome result (λ found. found.0.now ≡ word.now) }
-    ensures command { IfSome result
-        (λ found. lookup (bytes_eq word.now) commands.now.entries ≡ Some found.1.now) }
+/// The command that a word names, where it stands at the place that the word's text keeps.
+fn kept<'a>(commands: &'a Commands, word: &Value) -> Option<&'a Command>
+    ensures { IfSome result
+        (λ command. lookup (bytes_eq word.now) commands.now.entries ≡ Some command.now) }
 {
     let (name, command) = commands.get_index(word.place()?)?;
     if word.is_shared_text(name) {
-        return Some((name, command));
+        return Some(command);
     }
     None
 }
@@ -59,6 +57,7 @@ fn found_near<'a>(commands: &'a Commands, name: &Text) -> Option<&'a Command>
 
 impl Tree {
     ghost use Rattle.tcl_interpreter.specs.Commands.{straight, way_between, way_past};
+    ghost use Rattle.tcl_interpreter.specs.Names.{has_colons};
     ghost use Rattle.tcl_interpreter.specs.Own.{command_in, hidden_in};
     ghost use Rattle.tcl_interpreter.specs.Paths.{is_above};
     ghost use Rattle.tcl_tree.specs.Naming.{Becomes, RefusesThere, RefusesAt, Renames};
@@ -90,16 +89,19 @@ impl Tree {
     }
 
     /// The command of this name, where it stands at the place among the commands that the name's
-    /// text keeps, with the name as it stands there. This takes no memory.
-    pub fn command_kept(&self, place: Place, name: &Value) -> Option<(&Text, &Command)>
-        ensures name { IfSome result (λ found. found.0.now ≡ name.now) }
-        ensures command { IfSome result (λ found. (p : List (List ℕ)) → Names self.now place p →
-            Some found.1.now ≡ option_and_then
+    /// text keeps, and none of these has two colons side by side in its name. This takes no memory.
+    pub fn command_kept(&self, place: Place, name: &Value) -> Option<&Command>
+        ensures plain { IfSome result (λ command. has_colons name.now ≡ false) }
+        ensures command { IfSome result (λ command. (p : List (List ℕ)) → Names self.now place p →
+            Some command.now ≡ option_and_then
             (λ n. command_in n.own name.now) (tree_of self.now p)) }
     {
         let node = self.nodes.get(place.key)?;
-        let (found, command) = kept(&node.state.commands, name)?;
-        Some((found, command))
+        if !node.state.knows_plain_names {
+            return None;
+        }
+        let command = kept(&node.state.commands, name)?;
+        Some(command)
     }
 
     /// What a name stands for among the hidden commands of the interpreter that the place names.

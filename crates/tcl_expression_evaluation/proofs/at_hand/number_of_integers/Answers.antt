@@ -1,7 +1,7 @@
 use Rattle.std.proofs.Common.{rules, Some, FitsSigned, w64}
 use Rattle.std.proofs.lemmas.Int.{to_z-of_z}
 use Rattle.tcl_expression_evaluation.proofs.UnderWay.{number_read, values_applied}
-use Rattle.tcl_expression_evaluation.proofs.at_hand.number_of_values.Goals as goal
+use Rattle.tcl_expression_evaluation.proofs.at_hand.number_of_integers.Goals as goal
 
 pub returns : goal.returns
 returns c =
