@@ -1,6 +1,6 @@
 -- What expressions compute that were read.
-use Rattle.std.proofs.Common.{◌≡◌, ℤ, pos, ◌≤◌, true, List, [], ◌∷◌, length, Some, refl, sym, ap, subst, arith}
-use Rattle.std.specs.Prelude.{Ok}
+use Rattle.std.proofs.Common.{◌≡◌, ℤ, pos, ◌≤◌, Bool, true, false, List, [], ◌∷◌, length, Some, refl, sym, ap, subst, arith}
+use Rattle.std.specs.Prelude.{Result, Ok, Err}
 use Rattle.std.specs.Fmt.{signed_decimal}
 use Rattle.tcl_core.specs.Endings.{Completion, ok}
 use Rattle.tcl_core.specs.Endings.Reply.{Completed}
@@ -21,10 +21,13 @@ use Rattle.tcl_run.specs.Language.{language}
 use Rattle.tcl_language.specs.Scripts.{parts}
 use Rattle.tcl_language.specs.Words.{concat}
 use Rattle.tcl_expression_evaluation.specs.Messages.{message_of as operator_message}
-use Rattle.tcl_expression_evaluation.specs.AtHand.{comes_to, IsNumberAtHand}
+use Rattle.tcl_expression_evaluation.specs.AtHand.{comes_to, operand_value, short_text, text_read, IsNumberAtHand}
 use Rattle.tcl_expression_evaluation.proofs.UnderWay.{leads}
 use Rattle.tcl_parser.specs.Words.{WordRead}
 use Rattle.tcl_parser.specs.declared.script.Part.{Part}
+use Rattle.tcl_parser.specs.declared.script.Part.TheVariants.{Element, EndElement, Literal, Script, Variable}
+use Rattle.tcl_frames.specs.Chain.{read}
+use Rattle.tcl_frames.specs.declared.fault.FrameFault.{FrameFault}
 use Rattle.tcl_run.specs.Runs.{Proceeds, Ways}
 use Rattle.tcl_run.proofs.Proceeding.{at_prog, at_reply, goes_done, grows, reads_on}
 use Rattle.tcl_text.specs.declared.integer.Integers.{Integers}
@@ -44,15 +47,40 @@ module _ {S : Type 0} {ways : Ways S} (style : Integers) where
       Proceeds ways (language style) T o p (computed (from style kept.nodes.items 0 []) (settles style)) V z r → Proceeds ways (language style) T o p (expression style text) V z r
   computes_kept text kept k t = reads_on (expression_message text) (λ tree. computed (computation_of style tree) (settles style)) k.1 (at_prog (ap (λ (c : Computation). computed c (settles style)) (sym k.2)) t)
 
-  -- a computation whose parts are variables alone, each of which holds a value, goes on with what it comes to
+  variable_value : {T : Tree Own} {o : S} {p : Path} {n : TreeNode Own} (name held v : Text) (short : Bool) → T p ≡ Some n → read n.own.chain.frames name ≡ Ok held → fits held ≡ short → short_text short held ≡ Some v →
+      Proceeds ways (language style) T o p (parts (Variable name ∷ []) [] []) T o (Some (Completed (ok v)))
+  variable_value name held v true there e f h = at_reply (ap (λ (x : Text). Completed (ok x)) (sym (same_Some held v h))) (Steps.variable_goes style name held [] [] [] there e f completed)
+  variable_value name held v false there e f h = absurd (cc)
+
+  literal_value : {T : Tree Own} {o : S} {p : Path} (text v : Text) (short : Bool) → fits text ≡ short → short_text short text ≡ Some v →
+      Proceeds ways (language style) T o p (parts (Literal text ∷ []) [] []) T o (Some (Completed (ok v)))
+  literal_value text v true f h = at_reply (ap (λ (x : Text). Completed (ok x)) (sym (same_Some text v h))) (Steps.literal_goes style text [] [] [] f completed)
+  literal_value text v false f h = absurd (cc)
+
+  -- an operand at hand comes to its value
+  operand_goes : {T : Tree Own} {o : S} {p : Path} {n : TreeNode Own} (ps : List Part) (v : Text) → T p ≡ Some n → operand_value n.own.chain.frames ps ≡ Some v →
+      Proceeds ways (language style) T o p (parts ps [] []) T o (Some (Completed (ok v)))
+  operand_goes [] v there h = at_reply (ap (λ (x : Text). Completed (ok x)) (sym (same_Some [] v h))) completed
+  operand_goes (Literal text ∷ []) v there h = literal_value text v (fits text) refl h
+  operand_goes {T} {o} {p} {n} (Variable name ∷ []) v there h = by (read n.own.chain.frames name) refl h
+    where
+      by : (held : Result Text FrameFault) → read n.own.chain.frames name ≡ held → text_read held ≡ Some v → Proceeds ways (language style) T o p (parts (Variable name ∷ []) [] []) T o (Some (Completed (ok v)))
+      by (Ok held) e k = variable_value name held v (fits held) there e refl k
+      by (Err fault) e k = absurd (cc)
+  operand_goes (Literal text ∷ q ∷ ps) v there h = absurd (cc)
+  operand_goes (Variable name ∷ q ∷ ps) v there h = absurd (cc)
+  operand_goes (Element name ∷ ps) v there h = absurd (cc)
+  operand_goes (EndElement ∷ ps) v there h = absurd (cc)
+  operand_goes (Script text ∷ ps) v there h = absurd (cc)
+
+  -- a computation whose parts are texts and variables alone, each of which holds a value, goes on with what it comes to
   pub at_hand : {T V : Tree Own} {o z : S} {p : Path} {r : Ending} {n : TreeNode Own} (c : Computation) (t : Text) (k : Text → Program) → T p ≡ Some n → comes_to n.own.chain.frames c ≡ Some t →
       Proceeds ways (language style) T o p (k t) V z r → Proceeds ways (language style) T o p (computed c k) V z r
   at_hand {T} {V} {o} {z} {p} {r} {n} (value v) t k there h s = at_prog (ap k (same_Some v t h)) s
   at_hand {T} {V} {o} {z} {p} {r} {n} (refused f) t k there h s = absurd (cc)
   at_hand {T} {V} {o} {z} {p} {r} {n} (substitute part next) t k there h s =
       let l = leads n.own.chain.frames part.parts (λ v. comes_to n.own.chain.frames (next v)) t h in
-      part_goes part next k (ok l.value) l.value refl refl
-      (at_prog (ap (λ (ps : List Part). parts ps [] []) l.is) (Steps.variable_goes style l.name l.value [] [] [] there l.holds l.short completed))
+      part_goes part next k (ok l.value) l.value refl refl (operand_goes part.parts l.value there l.is)
       (at_hand (next l.value) t k there l.on s)
 
   -- a computation that comes to a number settles in that number in decimal

@@ -6,7 +6,8 @@ use Rattle.tcl_text.specs.declared.integer.Integers.{Integers}
 use Rattle.tcl_text.specs.declared.integer.IntegerFault.{IntegerFault}
 use Rattle.tcl_parser.specs.Words.{WordRead}
 use Rattle.tcl_parser.specs.declared.script.Part.{Part}
-use Rattle.tcl_parser.specs.declared.script.Part.TheVariants.{Variable, Literal, Element, EndElement, Script}
+use Rattle.tcl_parser.specs.declared.script.Part.TheVariants.{Variable}
+use Rattle.tcl_prepared.specs.Views.{literal_parts, literal_word}
 use Rattle.tcl_value.specs.Limits.{Bytes, IsWithin}
 use Rattle.tcl_frames.specs.declared.fault.FrameFault.{FrameFault}
 use Rattle.std.proofs.lemmas.Bool.Decides.{nat_tests}
@@ -24,7 +25,7 @@ use Rattle.tcl_expr.specs.declared.tree.Node.TheVariants as node
 use Rattle.tcl_expression_evaluation.specs.Computations.{Computation, value, substitute, operand, and_then, decided}
 use Rattle.tcl_expression_evaluation.specs.Steps.{doing, leaving, does, goes, from, top, below}
 use Rattle.tcl_expression_evaluation.proofs.Going.{goes_doing, goes_nil, two_steps}
-use Rattle.tcl_expression_evaluation.specs.AtHand.{comes_to, given, text_read, variable_value, short_text, ReadAs, Reduces, Follows, DoesStep, IsDecided, IsNumberAtHand, IsNumberFrom, Leaves, steps_before, steps_of_two}
+use Rattle.tcl_expression_evaluation.specs.AtHand.{comes_to, given, text_read, operand_value, short_text, ReadAs, Reduces, Follows, DoesStep, IsDecided, IsNumberAtHand, IsNumberFrom, Leaves, steps_before, steps_of_two}
 use Rattle.tcl_expression_evaluation.proofs.Stacks.{top_push, below_push}
 use Rattle.tcl_expression_evaluation.proofs.Truths.{truth_told}
 use Rattle.tcl_expression_evaluation.proofs.Waiting.{none_wait, pushed, popped}
@@ -36,34 +37,29 @@ is_short text h = grind (arith, nat_tests)
 
 pub variable_at : (frames : Levels) (word : WordRead) (name text : Bytes) (next : Bytes → Computation) → word.parts ≡ Variable name ∷ [] → read frames name ≡ Ok text → IsWithin text → comes_to frames (substitute word next) ≡ comes_to frames (next text)
 variable_at frames word name text next is holds short =
-    ap (λ parts. given (variable_value frames parts) (λ t. comes_to frames (next t))) is ∙ ap (λ r. given (text_read r) (λ t. comes_to frames (next t))) holds
+    ap (λ parts. given (operand_value frames parts) (λ t. comes_to frames (next t))) is ∙ ap (λ r. given (text_read r) (λ t. comes_to frames (next t))) holds
     ∙ ap (λ b. given (short_text b text) (λ t. comes_to frames (next t))) (is_short text short)
 
--- what a variable's value leads to, taken apart
+-- a literal's value is its text
+pub literal_at : (frames : Levels) (word : WordRead) (text : Bytes) (next : Bytes → Computation) → word ≡ literal_word text → IsWithin text → comes_to frames (substitute word next) ≡ comes_to frames (next text)
+literal_at frames word text next is short = ap (λ (w : WordRead). given (operand_value frames w.parts) (λ t. comes_to frames (next t))) is ∙ by text short
+  where
+    by : (t : Bytes) → IsWithin t → given (operand_value frames (literal_parts t)) (λ u. comes_to frames (next u)) ≡ comes_to frames (next t)
+    by [] h = refl
+    by (b ∷ t) h = ap (λ c. given (short_text c (b ∷ t)) (λ u. comes_to frames (next u))) (is_short (b ∷ t) h)
+
+-- what an operand's value leads to, taken apart
 pub record Leads (frames : Levels) (parts : List Part) (next : Bytes → Option Bytes) (text : Bytes) : Type 0 where
-  pub name : Bytes
   pub value : Bytes
-  pub is : parts ≡ Variable name ∷ []
-  pub holds : read frames name ≡ Ok value
-  pub short : nat_le (length value) 16777216 ≡ true
+  pub is : operand_value frames parts ≡ Some value
   pub on : next value ≡ Some text
 
-pub leads : (frames : Levels) (parts : List Part) (next : Bytes → Option Bytes) (text : Bytes) → given (variable_value frames parts) next ≡ Some text → Leads frames parts next text
-leads frames [] next text h = absurd (cc)
-leads frames (Variable name ∷ []) next text h = by (read frames name) refl h
+pub leads : (frames : Levels) (parts : List Part) (next : Bytes → Option Bytes) (text : Bytes) → given (operand_value frames parts) next ≡ Some text → Leads frames parts next text
+leads frames parts next text h = by (operand_value frames parts) refl h
   where
-    found : (held : Bytes) (short : Bool) → read frames name ≡ Ok held → nat_le (length held) 16777216 ≡ short → given (short_text short held) next ≡ Some text → Leads frames (Variable name ∷ []) next text
-    found held true e f k = record { name = name; value = held; is = refl; holds = e; short = f; on = k }
-    found held false e f k = absurd (cc)
-
-    by : (r : Result Bytes FrameFault) → read frames name ≡ r → given (text_read r) next ≡ Some text → Leads frames (Variable name ∷ []) next text
-    by (Ok held) e k = found held (nat_le (length held) 16777216) e refl k
-    by (Err fault) e k = absurd (cc)
-leads frames (Variable name ∷ p ∷ parts) next text h = absurd (cc)
-leads frames (Literal t ∷ parts) next text h = absurd (cc)
-leads frames (Element name ∷ parts) next text h = absurd (cc)
-leads frames (EndElement ∷ parts) next text h = absurd (cc)
-leads frames (Script t ∷ parts) next text h = absurd (cc)
+    by : (held : Option Bytes) → operand_value frames parts ≡ held → given held next ≡ Some text → Leads frames parts next text
+    by (Some found) e k = record { value = found; is = e; on = k }
+    by None e k = absurd (cc)
 
 pub number_read : (r : Result ℤ IntegerFault) (found : Option ℤ) (given : Result ℤ IntegerFault) → found ≡ result_ok r → r ≡ given → IfSome found (λ n. given ≡ Ok n)
 number_read (Ok m) found given e h = subst (λ (p : Option ℤ). IfSome p (λ n. given ≡ Ok n)) (sym e) (sym h)

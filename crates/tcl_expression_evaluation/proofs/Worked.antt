@@ -9,7 +9,7 @@ use Rattle.tcl_frames.specs.Places.{Levels}
 use Rattle.tcl_frames.specs.Chain.{read}
 use Rattle.tcl_expression_evaluation.specs.Computations.{Computation, substitute}
 use Rattle.tcl_expression_evaluation.specs.Steps.{goes}
-use Rattle.tcl_expression_evaluation.specs.AtHand.{comes_to, given, text_read, variable_value}
+use Rattle.tcl_expression_evaluation.specs.AtHand.{comes_to, given, text_read, operand_value}
 use Rattle.tcl_expression_evaluation.specs.NumberLaws.{OneMoreIs42, OneMoreThanNone}
 use Rattle.tcl_expression_evaluation.proofs.UnderWay.{variable_at}
 
@@ -20,7 +20,7 @@ one_more_is_42 Tcl9 frames x name is holds = variable_at frames x name (48 ∷ 1
 
 none_at : (frames : Levels) (word : WordRead) (name : Bytes) (fault : FrameFault) (next : Bytes → Computation) → word.parts ≡ Variable name ∷ [] → read frames name ≡ Err fault → comes_to frames (substitute word next) ≡ None
 none_at frames word name fault next is fails =
-    ap (λ parts. given (variable_value frames parts) (λ t. comes_to frames (next t))) is ∙ ap (λ r. given (text_read r) (λ t. comes_to frames (next t))) fails
+    ap (λ parts. given (operand_value frames parts) (λ t. comes_to frames (next t))) is ∙ ap (λ r. given (text_read r) (λ t. comes_to frames (next t))) fails
 
 pub one_more_than_none : OneMoreThanNone
 unfolding goes

@@ -1,11 +1,11 @@
--- What an expression comes to where each of its operands is at hand: a literal, or a variable that
+-- What an expression comes to where each of its operands is at hand: a text, or a variable that
 -- holds a value.
 use Rattle.std.specs.Prelude.{◌≡◌, Bool, true, false, nat_le, length, List, [], ◌∷◌, ◌++◌, ℤ, ◌≤◌}
 use Rattle.std.specs.Prelude.{Option, Some, None, Result, Ok, Err}
 use Rattle.std.specs.Fmt.{signed_decimal}
 use Rattle.tcl_text.specs.declared.integer.Integers.{Integers}
 use Rattle.tcl_parser.specs.declared.script.Part.{Part}
-use Rattle.tcl_parser.specs.declared.script.Part.TheVariants.{Variable}
+use Rattle.tcl_parser.specs.declared.script.Part.TheVariants.{Literal, Variable}
 use Rattle.tcl_value.specs.Limits.{Bytes}
 use Rattle.tcl_value.specs.Reading.{int_of}
 use Rattle.tcl_frames.specs.declared.fault.FrameFault.{FrameFault}
@@ -30,21 +30,23 @@ abbrev pub text_read : Result Bytes FrameFault → Option Bytes
 text_read (Ok text) = short_text (nat_le (length text) 16777216) text
 text_read (Err fault) = None
 
--- the value of the one variable that the parts of a word are
-abbrev pub variable_value : Levels → List Part → Option Bytes
-variable_value frames (Variable name ∷ []) = text_read (read frames name)
-variable_value frames parts = None
+-- the value of the one variable that the parts of a word are, or the one text
+abbrev pub operand_value : Levels → List Part → Option Bytes
+operand_value frames [] = Some []
+operand_value frames (Variable name ∷ []) = text_read (read frames name)
+operand_value frames (Literal text ∷ []) = short_text (nat_le (length text) 16777216) text
+operand_value frames parts = None
 
 abbrev pub given : Option Bytes → (Bytes → Option Bytes) → Option Bytes
 given (Some text) next = next text
 given None next = None
 
--- The value that is computed, where every part that is asked for is a variable that holds a value,
--- and nothing is refused.
+-- The value that is computed, where every part that is asked for is a text or a variable that holds
+-- a value, and nothing is refused.
 abbrev pub comes_to : Levels → Computation → Option Bytes
 comes_to frames (value text) = Some text
 comes_to frames (refused fault) = None
-comes_to frames (substitute word next) = given (variable_value frames word.parts)
+comes_to frames (substitute word next) = given (operand_value frames word.parts)
     (λ text. comes_to frames (next text))
 
 -- the steps come to a text that reads as the number

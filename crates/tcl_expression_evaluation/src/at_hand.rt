@@ -1,5 +1,4 @@
-//! Computing an expression whose operands are numbers at hand: literals, and variables of the
-//! current frame.
+//! Computing an expression whose operands are at hand: texts, and variables of the current frame.
 ghost use Rattle.std.specs.Prelude.{◌≡◌, ◌-◌, ◌≤◌, ◌++◌, ◌∷◌, [], List, Ok, IfSome, length};
 ghost use Rattle.std.specs.Ordering.{nat_cmp};
 ghost use Rattle.std.specs.Cmp.Lexicographic.{slice_cmp};
@@ -9,7 +8,7 @@ ghost use Rattle.tcl_value.specs.Limits.{Bytes};
 ghost use Rattle.tcl_value.specs.Reading.{int_of};
 ghost use Rattle.tcl_expression_evaluation.specs.Apply.{apply_unary, apply_binary, answer, bit};
 ghost use Rattle.tcl_expression_evaluation.specs.Apply.{compared, holds, both, either};
-ghost use Rattle.tcl_expression_evaluation.specs.Computations.{Computation, operand};
+ghost use Rattle.tcl_expression_evaluation.specs.Computations.{Computation, operand, substitute};
 ghost use Rattle.tcl_expression_evaluation.specs.AtHand.{comes_to, IsNumberAtHand, steps_of_two};
 ghost use Rattle.tcl_expression_evaluation.specs.AtHand.{IsNumberFrom, ReadAs, Leaves, begins_with};
 ghost use Rattle.tcl_expression_evaluation.specs.AtHand.{steps_before, Reduces, DoesStep};
@@ -28,6 +27,8 @@ use tcl_expr::operator::{BinaryOperator, UnaryOperator};
 use tcl_expr::token::Leaf;
 use tcl_expr::tree::{ExprTree, Node};
 use tcl_frames::frames::Frames;
+use tcl_prepared::operand::Operand as Substitution;
+use tcl_prepared::prepared::{PreparedPart, PreparedWord};
 use tcl_text::integer::{IntegerFault, Integers};
 use tcl_value::value::Value;
 
@@ -71,11 +72,19 @@ pub fn may_be_numbers(rest: &[Node]) -> bool {
 fn may_bring_number(step: &Node) -> bool {
     match step {
         Node::Operand(Leaf::Literal(_)) | Node::Unary(_) => true,
-        Node::Operand(Leaf::Substituted(operand)) => operand.variable().is_some(),
+        Node::Operand(Leaf::Substituted(operand)) => may_be_at_hand(operand),
         Node::Binary(operator) => !matches!(kind_of(*operator), Kind::Within | Kind::Without),
         Node::Needed(_) | Node::Question | Node::Colon | Node::Choice => true,
         Node::Call(_, _) => false,
     }
+}
+
+/// Whether an operand that is substituted may be at hand.
+fn may_be_at_hand(operand: &Substitution) -> bool {
+    matches!(
+        operand.word(),
+        PreparedWord::Literal(_) | PreparedWord::Lone(PreparedPart::Variable(_))
+    )
 }
 
 /// The two operands and the operator that the steps are, if they are no more.
@@ -493,7 +502,7 @@ fn answer_of_first(operator: BinaryOperator, first: i64) -> Option<i64>
     }
 }
 
-/// The value of an operand, where it is a literal or a variable of the current frame.
+/// The value of an operand, where it is a text or a variable of the current frame.
 fn value_at_hand<'a>(frames: &'a Frames, leaf: &'a Leaf) -> Option<&'a Value>
     ensures { IfSome result (λ value. (next : Bytes → Computation) →
         comes_to frames.now.frames (operand leaf.now next)
@@ -501,11 +510,29 @@ fn value_at_hand<'a>(frames: &'a Frames, leaf: &'a Leaf) -> Option<&'a Value>
 {
     match leaf {
         Leaf::Literal(value) => Some(value),
-        Leaf::Substituted(operand) => {
-            let value = frames.scalar_near(operand.variable()?)?;
+        Leaf::Substituted(operand) => operand_at_hand(frames, operand),
+    }
+}
+
+/// The value of an operand that is substituted, where it is one variable of the current frame, or a
+/// text alone, as one in quotes.
+#[inline(always)]
+fn operand_at_hand<'a>(frames: &'a Frames, operand: &'a Substitution) -> Option<&'a Value>
+    ensures { IfSome result (λ value. (next : Bytes → Computation) →
+        comes_to frames.now.frames (substitute operand.now next)
+        ≡ comes_to frames.now.frames (next value.now)) }
+{
+    match operand.word() {
+        PreparedWord::Lone(PreparedPart::Variable(name)) => {
+            let value = frames.scalar_near(name)?;
             value.keeps_limit();
             Some(value)
         }
+        PreparedWord::Literal(value) => {
+            value.keeps_limit();
+            Some(value)
+        }
+        _ => None,
     }
 }
 
