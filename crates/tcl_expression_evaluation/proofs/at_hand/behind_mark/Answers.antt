@@ -1,5 +1,5 @@
-use Rattle.std.proofs.Common.{◌∙◌, ◌+◌, ap, arith, sym}
-use Rattle.tcl_expression_evaluation.specs.Steps.{goes, leaving, doing, mode_of}
+use Rattle.std.proofs.Common.{◌∙◌, ap, arith}
+use Rattle.tcl_expression_evaluation.specs.Steps.{leaving, doing, mode_of}
 use Rattle.tcl_expression_evaluation.proofs.Going.{left_next, left_nothing, nests}
 use Rattle.tcl_expression_evaluation.proofs.UnderWay.{none_of}
 use Rattle.tcl_expression_evaluation.proofs.at_hand.behind_mark.Goals as goal

@@ -1,4 +1,4 @@
-use Rattle.std.proofs.Common.{arith, length}
+use Rattle.std.proofs.Common.{arith}
 use Rattle.tcl_expression_evaluation.proofs.UnderWay.{begins, goes_on, ends, none_of}
 use Rattle.tcl_expression_evaluation.proofs.at_hand.number_of_steps.Goals as goal
 
