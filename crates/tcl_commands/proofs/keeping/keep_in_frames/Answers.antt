@@ -13,7 +13,9 @@ returns-in-Some c =
 
 pub returns-in-Ok : goal.returns-in-Ok
 returns-in-Ok c =
+    let near = c.scalar_mut_near.follows in
     let lent = c.get_mut in
     let new = c.keep_in_value-in-Ok.new.value in
-    set_same c.args.frames.now (lent.follows.lender new) c.args.name.now c.in-Ok.value.now c.in-Ok.ensures.ok
-    (ap (after_set c.args.frames.now c.args.name.now) (sym c.keep_in_value-in-Ok.ensures) ∙ lent.follows.holds new (search rules))
+    set_same near.lender-at-none (lent.follows.lender new) c.text.result.now c.in-Ok.value.now c.in-Ok.ensures.ok
+    (ap (after_set near.lender-at-none c.text.result.now) (sym c.keep_in_value-in-Ok.ensures) ∙ lent.follows.holds new (search rules))
+    ∙ near.holds-at-none
