@@ -309,21 +309,42 @@ fn is_variable(word: &PreparedWord) -> bool {
     matches!(word, PreparedWord::Lone(PreparedPart::Variable(_)))
 }
 
-/// Whether a command reads the text of its first word, a variable, as a list that isn't kept. It
-/// isn't answered at once then, so that the variable keeps its list. A hint, of which contracts say
-/// nothing.
-fn reads_list_anew(builtin: Builtin, word: &PreparedWord, value: &Value) -> bool {
-    value.wants_list()
-        && is_variable(word)
-        && matches!(
-            builtin,
-            Builtin::Llength | Builtin::Lindex | Builtin::Lrange
-        )
+/// What the first word of a command stands for over these frames. None where it is a variable whose
+/// text the command would read as a list anew: the answer isn't made at once then, so that the
+/// variable keeps its list.
+fn first_at_hand(
+    frames: &Frames,
+    alloc: Global,
+    builtin: Builtin,
+    word: &PreparedWord,
+) -> Option<Value>
+    ensures { IfSome result (λ value. StandsFor frames.now.frames (seen_word word.now) value) }
+{
+    let value = value_at_hand(frames, alloc, word)?;
+    let reads = matches!(
+        builtin,
+        Builtin::Llength | Builtin::Lindex | Builtin::Lrange
+    );
+    if value.wants_list() && reads && is_variable(word) {
+        return None;
+    }
+    Some(value)
 }
 
-/// The same of the second word and a dict.
-fn reads_dict_anew(builtin: Builtin, word: &PreparedWord, value: &Value) -> bool {
-    matches!(builtin, Builtin::Dict) && value.wants_dict() && is_variable(word)
+/// The same of the second word, which `dict` reads as a dict.
+fn second_at_hand(
+    frames: &Frames,
+    alloc: Global,
+    builtin: Builtin,
+    word: &PreparedWord,
+) -> Option<Value>
+    ensures { IfSome result (λ value. StandsFor frames.now.frames (seen_word word.now) value) }
+{
+    let value = value_at_hand(frames, alloc, word)?;
+    if matches!(builtin, Builtin::Dict) && value.wants_dict() && is_variable(word) {
+        return None;
+    }
+    Some(value)
 }
 
 /// The same of one to four words that are at hand over these frames.
@@ -340,44 +361,23 @@ fn answer_of_words(
 {
     match words {
         [first] => {
-            let a = value_at_hand(frames, alloc, first)?;
-            if reads_list_anew(builtin, first, &a) {
-                return None;
-            }
+            let a = first_at_hand(frames, alloc, builtin, first)?;
             answer_of(alloc, style, builtin, &[a])
         }
         [first, second] => {
-            let a = value_at_hand(frames, alloc, first)?;
-            if reads_list_anew(builtin, first, &a) {
-                return None;
-            }
-            let b = value_at_hand(frames, alloc, second)?;
-            if reads_dict_anew(builtin, second, &b) {
-                return None;
-            }
+            let a = first_at_hand(frames, alloc, builtin, first)?;
+            let b = second_at_hand(frames, alloc, builtin, second)?;
             answer_of(alloc, style, builtin, &[a, b])
         }
         [first, second, third] => {
-            let a = value_at_hand(frames, alloc, first)?;
-            if reads_list_anew(builtin, first, &a) {
-                return None;
-            }
-            let b = value_at_hand(frames, alloc, second)?;
-            if reads_dict_anew(builtin, second, &b) {
-                return None;
-            }
+            let a = first_at_hand(frames, alloc, builtin, first)?;
+            let b = second_at_hand(frames, alloc, builtin, second)?;
             let c = value_at_hand(frames, alloc, third)?;
             answer_of(alloc, style, builtin, &[a, b, c])
         }
         [first, second, third, fourth] => {
-            let a = value_at_hand(frames, alloc, first)?;
-            if reads_list_anew(builtin, first, &a) {
-                return None;
-            }
-            let b = value_at_hand(frames, alloc, second)?;
-            if reads_dict_anew(builtin, second, &b) {
-                return None;
-            }
+            let a = first_at_hand(frames, alloc, builtin, first)?;
+            let b = second_at_hand(frames, alloc, builtin, second)?;
             let c = value_at_hand(frames, alloc, third)?;
             let d = value_at_hand(frames, alloc, fourth)?;
             answer_of(alloc, style, builtin, &[a, b, c, d])

@@ -1007,6 +1007,15 @@ evaluation::eval_word-returns-in_ok-value-in-Name-clause-runs g t c =
 pub evaluation::eval_word-returns-in_ok-value-in-Name-clause-here : goal.evaluation::eval_word-returns-in_ok-value-in-Name-clause-here
 evaluation::eval_word-returns-in_ok-value-in-Name-clause-here g t c = here-refl c.args.tree.now c.args.place
 
+pub evaluation::eval_word-returns-in-Some-clause-runs : goal.evaluation::eval_word-returns-in-Some-clause-runs
+evaluation::eval_word-returns-in-Some-clause-runs g t c = λ q style at.
+    let n = stands (tree_of c.args.tree.now q) (tree_there c.args.tree.now q _ at.names) in
+    let word = c.in-Some.ensures q n.0 at.names n.1 in
+    Calls.word_stands_goes style (seen_word c.args.word.now).parts c.in-Some.value n.1 word.by word.short
+
+pub evaluation::eval_word-returns-in-Some-clause-here : goal.evaluation::eval_word-returns-in-Some-clause-here
+evaluation::eval_word-returns-in-Some-clause-here g t c = here-refl c.args.tree.now c.args.place
+
 -- a script
 
 pub evaluation::eval_script-returns-in-Err-clause-runs : goal.evaluation::eval_script-returns-in-Err-clause-runs
