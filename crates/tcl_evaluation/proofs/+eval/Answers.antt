@@ -21,7 +21,7 @@ use Rattle.tcl_parser.specs.Words.{WordRead}
 use Rattle.tcl_language.specs.Instructions.{fits, Open}
 use Rattle.tcl_run.proofs.Endings.{IfEnded-at, Interrupts-more, Interrupts-at}
 use Rattle.tcl_run.proofs.Proceeding.{at_finish, at_prog, at_reply, at_start}
-use Rattle.tcl_run.proofs.Steady.{called_here, here-refl, here-trans, still_at, still_named, still_running, steady-trans, steady_holds, held_behind, level_here, level_steady, level_there, nested_here, nested_holds, nested_innermost, nested_steady, nested_held, level_held, level-refl, same_level, begun_at, less_room, stands}
+use Rattle.tcl_run.proofs.Steady.{called_here, here-refl, here-trans, still_at, still_named, still_running, steady-trans, steady_holds, level_here, level_steady, level_there, nested_here, nested_holds, nested_innermost, nested_steady, nested_held, level_held, level-refl, same_level, begun_at, less_room, stands}
 use Rattle.tcl_run.proofs.Keeping.{keeps-refl, keeps-trans, level_keeps, charged_keeps, told_keeps}
 use Rattle.tcl_evaluation.proofs.Steps
 use Rattle.tcl_evaluation.proofs.Steps.{stays_of, EndsFrom, TextEnds, text_ends, VariableEnds, variable_ends, EndsAt, appended, forgets, both}
@@ -1090,11 +1090,6 @@ evaluation::eval_bracket-returns-clause-runs g t c =
     (EndsAt (ways g.O.Outside.goes g.O.Outside.loses) kept.new.tree c.args.outside.now c.args.place (λ style. read_so c.script-2.result.now) c.eval_script.new.tree c.eval_script.new.outside)
     (EndsAt (ways g.O.Outside.goes g.O.Outside.loses) c.args.tree.now c.args.outside.now c.args.place (λ style. script c.args.bracket.now) c.eval_script.new.tree c.eval_script.new.outside)
     (λ e h q style at. at_start kept.ensures.same (at_prog (ap read_so (sym c.script-2.ensures)) (h q style (level_there c.args.tree.now kept.new.tree c.args.place q style kept.ensures.level at)))) c.eval_script.ensures.runs
-
-pub evaluation::eval_bracket-returns-clause-held : goal.evaluation::eval_bracket-returns-clause-held
-evaluation::eval_bracket-returns-clause-held g t c = λ q at.
-    let level = c.keep_what_is_read.ensures.level in
-    held_behind c.args.tree.now c.keep_what_is_read.new.tree c.eval_script.new.tree q level (c.eval_script.ensures.held q (level.keys q ∙ at))
 
 pub evaluation::eval_bracket-returns-clause-here : goal.evaluation::eval_bracket-returns-clause-here
 evaluation::eval_bracket-returns-clause-here g t c =
