@@ -137,8 +137,8 @@ pub fn eval_read<O: Outside>(
 }
 
 /// Evaluates a script in brackets that was read with the script around it, one level deeper. A sum
-/// or an answer that is at hand is only counted. A variable that another answer reads keeps what its
-/// text reads as.
+/// or an answer that is at hand is only counted. A variable that another answer reads keeps what
+/// its text reads as.
 ///
 /// # Errors
 /// Those of a script.
