@@ -4,12 +4,23 @@ ghost use Rattle.std.specs.Str.{chars};
 ghost use Rattle.tcl_characters.specs.Texts.{text_of};
 
 use crate::starts::{first_characters, skip_characters, starts_in};
+use tcl_text::text::Text;
 
 /// How many characters a text has.
 pub fn character_count(text: &str) -> usize
     ensures { result ≡ length (chars text.now) }
 {
     starts_in(text.as_bytes())
+}
+
+/// The same of a shared text. Those of a long one that is ASCII aren't counted.
+pub fn characters_of(text: &Text) -> usize
+    ensures { result ≡ length (chars text.now) }
+{
+    match text.known_count() {
+        Some(count) => count,
+        None => character_count(text.as_str()),
+    }
 }
 
 /// The first characters of a text, as many as are asked for or all.

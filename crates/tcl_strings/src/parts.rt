@@ -12,7 +12,7 @@ ghost use Rattle.tcl_strings.specs.Parts.{trim_left_of, trim_right_of, white, re
 use crate::spans::{before, behind, counted_span, span};
 use std::alloc::Global;
 use tcl_characters::copies;
-use tcl_characters::parts::character_count;
+use tcl_characters::parts::characters_of;
 use tcl_characters::trimming::{WHITE, trim_left, trim_right};
 use tcl_text::index::Index;
 use tcl_text::integer::Integers;
@@ -33,7 +33,7 @@ pub fn length(alloc: Global, words: &[Text]) -> Result<Answer, Refusal>
     ensures { Gives answer_text result (length_of words.now) }
 {
     let text = one_word(alloc, words, "string length s")?;
-    count_answer(alloc, character_count(text.as_str()))
+    count_answer(alloc, characters_of(text))
 }
 
 /// `string index s i`: the character at an index, or nothing where there is none.
@@ -44,7 +44,7 @@ pub fn index(alloc: Global, style: Integers, words: &[Text]) -> Result<Answer, R
     ensures { Gives answer_text result (index_of style words.now) }
 {
     let (text, at) = two_words(alloc, words, "string index s i")?;
-    let count = character_count(text.as_str());
+    let count = characters_of(text);
     let at = index_word(alloc, style, count, at.as_str())?;
     text_answer(alloc, counted_span(text.as_str(), count, at, at))
 }
@@ -57,7 +57,7 @@ pub fn range(alloc: Global, style: Integers, words: &[Text]) -> Result<Answer, R
     ensures { Gives answer_text result (range_of style words.now) }
 {
     let (text, first, last) = three_words(alloc, words, "string range s first last")?;
-    let count = character_count(text.as_str());
+    let count = characters_of(text);
     let first = index_word(alloc, style, count, first.as_str())?;
     let last = index_word(alloc, style, count, last.as_str())?;
     text_answer(alloc, counted_span(text.as_str(), count, first, last))
@@ -168,7 +168,7 @@ pub fn replace(alloc: Global, style: Integers, words: &[Text]) -> Result<Answer,
         words,
         "string replace s first last ?new?",
     )?;
-    let count = character_count(text.as_str());
+    let count = characters_of(text);
     let first = index_word(alloc, style, count, first.as_str())?;
     let last = index_word(alloc, style, count, last.as_str())?;
     replaced(alloc, text.as_str(), first, last, or_empty(new))

@@ -6,7 +6,7 @@ ghost use Rattle.tcl_words.specs.Outcomes.{Gives, answer_text};
 ghost use Rattle.tcl_strings.specs.Searching.{place_or, index_or, first_of, last_of};
 
 use std::alloc::Global;
-use tcl_characters::parts::character_count;
+use tcl_characters::parts::characters_of;
 use tcl_characters::places::{first_place, last_place};
 use tcl_text::index::Index;
 use tcl_text::integer::Integers;
@@ -75,7 +75,7 @@ pub fn first(alloc: Global, style: Integers, words: &[Text]) -> Result<Answer, R
     ensures { Gives answer_text result (first_of style words.now) }
 {
     let (needle, text, from) = two_or_three_words(alloc, words, "string first needle s ?start?")?;
-    let count = character_count(text.as_str());
+    let count = characters_of(text);
     let from = index_or(alloc, style, count, Index::Before, from)?;
     place_answer(
         alloc,
@@ -92,7 +92,7 @@ pub fn last(alloc: Global, style: Integers, words: &[Text]) -> Result<Answer, Re
     ensures { Gives answer_text result (last_of style words.now) }
 {
     let (needle, text, last) = two_or_three_words(alloc, words, "string last needle s ?last?")?;
-    let count = character_count(text.as_str());
+    let count = characters_of(text);
     let last = index_or(alloc, style, count, Index::Beyond, last)?;
     place_answer(
         alloc,

@@ -1,6 +1,7 @@
 //! Texts that are shared, and are changed in place where they are not.
-ghost use Rattle.std.specs.Prelude.{◌≡◌, ◌++◌, ◌==◌, length, IfOk, OnOk, OnErr};
+ghost use Rattle.std.specs.Prelude.{◌≡◌, ◌++◌, ◌==◌, length, IfOk, IfSome, OnOk, OnErr};
 ghost use Rattle.std.specs.Prelude.{IsTrue};
+ghost use Rattle.std.specs.Str.{chars, IsAscii};
 ghost use Rattle.std.specs.String.{string_bytes};
 ghost use Rattle.tcl_text.specs.Eight.{eight, IsFront};
 
@@ -15,25 +16,29 @@ use std::rc::Rc;
 /// What the clones of a text share.
 ///
 /// Its first eight bytes stand as one number beside it, by which texts that differ are mostly told
-/// apart, and short ones compared, without a look at their bytes.
+/// apart, and short ones compared, without a look at their bytes. Of a long one it is kept whether
+/// it is known to be ASCII.
 #[derive(Drop)]
 struct Shared {
     text: String,
     front: u64,
     hint: Cell<u32>,
+    is_ascii: bool,
 }
 
 impl Clone for Shared {
     ghost use Rattle.std.specs.Prelude.{◌≡◌};
     ghost use Rattle.std.specs.String.{string_bytes};
 
-    ghost is_clone = { λ x y. (string_bytes y.text ≡ string_bytes x.text) × (y.front ≡ x.front) };
+    ghost is_clone = { λ x y. (string_bytes y.text ≡ string_bytes x.text) ×
+        (y.front ≡ x.front) × (y.is_ascii ≡ x.is_ascii) };
 
     fn clone(&self) -> Result<Shared, AllocError> {
         Ok(Shared {
             text: self.text.clone()?,
             front: self.front,
             hint: Cell::new(0),
+            is_ascii: self.is_ascii,
         })
     }
 }
@@ -62,6 +67,30 @@ fn front_of(text: &str) -> u64
     u64::from_le_bytes(eight_of(text.as_bytes()))
 }
 
+/// How many bytes a text has at the least of which it is kept that it is ASCII: the characters of a
+/// shorter one are soon counted.
+const LONG: usize = 32;
+
+/// Whether a text is long and ASCII.
+fn is_long_ascii(text: &str) -> bool
+    ensures { IsTrue result → IsAscii text.now }
+{
+    text.len() >= LONG && text.is_ascii()
+}
+
+/// Whether a text is long and ASCII with more at its end, of which only what is added is looked at
+/// where the text is long already.
+fn stays_ascii(shared: &Shared, more: &str) -> bool
+    requires { IsTrue shared.now.is_ascii → IsAscii (string_bytes shared.now.text) }
+    ensures { IsTrue result → IsAscii (string_bytes shared.now.text ++ more.now) }
+{
+    let text = shared.text.as_str();
+    if text.len() >= LONG {
+        return shared.is_ascii && more.is_ascii();
+    }
+    more.len() >= LONG - text.len() && text.is_ascii() && more.is_ascii()
+}
+
 /// A text in UTF-8, which contracts see as the list of its bytes.
 ///
 /// A clone shares the bytes. A text that isn't shared grows in place.
@@ -80,7 +109,8 @@ impl Drop for Text {
 }
 
 impl Model for Text {
-    ghost use Rattle.std.specs.Prelude.{List, ℕ};
+    ghost use Rattle.std.specs.Prelude.{List, ℕ, IsTrue};
+    ghost use Rattle.std.specs.Str.{IsAscii};
     ghost use Rattle.std.specs.String.{string_bytes};
     ghost use Rattle.tcl_text.specs.Eight.{IsFront};
 
@@ -88,7 +118,8 @@ impl Model for Text {
 
     ghost view = { λ a. string_bytes a.shared.value.text };
 
-    ghost invariant = { λ a. IsFront (string_bytes a.shared.value.text) a.shared.value.front };
+    ghost invariant = { λ a. IsFront (string_bytes a.shared.value.text) a.shared.value.front ×
+        (IsTrue a.shared.value.is_ascii → IsAscii (string_bytes a.shared.value.text)) };
 }
 
 impl Text {
@@ -109,10 +140,15 @@ impl Text {
     pub fn from_string(alloc: Global, text: String) -> Result<Text, AllocError>
         ensures { IfOk result (λ made. made ≡ string_bytes text) }
     {
-        let front = front_of(text.as_str());
-        let hint = Cell::new(0);
-        let shared = Rc::new(alloc, Shared { text, front, hint })?;
-        Ok(Text { shared })
+        let shared = Shared {
+            front: front_of(text.as_str()),
+            hint: Cell::new(0),
+            is_ascii: is_long_ascii(text.as_str()),
+            text,
+        };
+        Ok(Text {
+            shared: Rc::new(alloc, shared)?,
+        })
     }
 
     /// Its characters, borrowed.
@@ -139,6 +175,18 @@ impl Text {
         ensures { result ≡ length self.now }
     {
         self.as_str().len()
+    }
+
+    /// How many characters it has, where that is known and they needn't be counted: where it has 32
+    /// bytes or more, and all of them are ASCII.
+    pub fn known_count(&self) -> Option<usize>
+        ensures { IfSome result (λ count. count ≡ length (chars self.now)) }
+    {
+        if self.shared.is_ascii {
+            Some(self.len())
+        } else {
+            None
+        }
     }
 
     /// Whether it has no byte.
@@ -170,8 +218,10 @@ impl Text {
         ensures unchanged { OnErr result (self.new ≡ self.old) }
     {
         let shared = Rc::make_mut(&mut self.shared)?;
+        let is_ascii = stays_ascii(shared, more);
         shared.text.push_str(more)?;
         shared.front = front_of(shared.text.as_str());
+        shared.is_ascii = is_ascii;
         Ok(())
     }
 }

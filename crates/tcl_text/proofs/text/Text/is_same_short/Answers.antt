@@ -14,4 +14,4 @@ returns c = λ least.
     let len : length text ≡ length others = ap length (sym is) ∙ c.if-text-others.false ∙ ap length other_is in
     let short : length text ≤ 8 = grind (arith, nat_tests, least, ap length is) in
     let front = sym (ap (λ (s : Shared). s.front) c.deref.ensures) ∙ c.if-deref.false ∙ ap (λ (s : Shared). s.front) c.deref-2.ensures in
-    sym c.self.view_is ∙ same_short text others _ _ c.self.invariant c.other.invariant len short front ∙ c.other.view_is
+    sym c.self.view_is ∙ same_short text others _ _ c.self.invariant.0 c.other.invariant.0 len short front ∙ c.other.view_is

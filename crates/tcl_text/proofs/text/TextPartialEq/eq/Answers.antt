@@ -24,7 +24,7 @@ returns-then-text-le8 c =
     ∙ ap (λ (s : Shared). s.front) c.deref-2.ensures
     in
     let same =
-    same_short text others _ _ c.self.invariant c.other.invariant len short front
+    same_short text others _ _ c.self.invariant.0 c.other.invariant.0 len short front
     in
     let equal =
     (bytes_decides c.args.self.now c.args.other.now).1
