@@ -74,6 +74,11 @@ rest_weight xs now i j x first at kept before behind less more k v a b h s p q l
     let part = ap (λ t. weight_from first (drop i (take j t))) v in
     omega arith
 
+-- a part weighs at most what all weighs, and its first element
+pub part_at_most : (xs : List Element) (now : List (List ℕ)) (i j : ℕ) (x : Element) (kept more : ℕ) → kept ≡ weight (texts xs) → texts xs ≡ now → i < j → j ≤ length now → x ≡ get_or xs i x → more ≡ size true (element_text x) → weight_from true (drop i (take j now)) ≤ kept + more
+part_at_most xs now i j x kept more k v a b h m =
+    omega (arith, rest_weight xs now i j x true (i == 0) kept _ _ _ more k v a b h refl refl refl refl m)
+
 -- what a list weighs is far below 2 ^ 90
 pub kept_fewer : (kept n cap : ℕ) (xs : List Element) → kept ≡ weight (texts xs) → AreElements xs → n ≡ length xs → n ≤ cap → cap < 2 ^ 63 → kept < 2 ^ 89
 kept_fewer kept n cap xs k h l m s = omega (arith, weight_at_most true xs h)

@@ -1,7 +1,7 @@
 //! Lists that carry no text.
 ghost use Rattle.std.specs.Prelude.{◌≡◌, ◌<◌, ◌≤◌, ◌++◌, ◌∷◌, ◌^◌, ◌+◌, ◌==◌, false, ◌&&◌, ◌↔◌, []};
 ghost use Rattle.std.specs.Prelude.{length, IfOk, OnOk, OnErr, IfErr, IfSome, IsErr, IsErrOf};
-ghost use Rattle.std.specs.Prelude.{IsTrue};
+ghost use Rattle.std.specs.Prelude.{ℕ, true, IsTrue};
 ghost use Rattle.std.specs.Fmt.{signed_decimal};
 ghost use Rattle.std.specs.Prelude.{slice_index_or, slice_set, take, drop};
 ghost use Rattle.std.specs.Bool.{OnTrue, OnFalse};
@@ -422,12 +422,26 @@ impl Items {
         })
     }
 
+    /// Whether all its elements are so few bytes that any part which begins at a place is short
+    /// enough for a value. This measures one element.
+    fn has_small_parts(&self, from: usize) -> bool
+        requires { from < length self.now }
+        ensures { IsTrue result → (to : ℕ) → from < to → to ≤ length self.now →
+            weight_from true (drop from (take to self.now)) ≤ 16777217 }
+    {
+        let leading = &self.elements[from];
+        self.weight + leading.written_len(true) as u128 <= MOST_WEIGHT
+    }
+
     /// Whether the text of its elements from one place up to another is short enough for a value.
     pub(crate) fn is_part_within(&self, from: usize, to: usize) -> bool
         requires order { from ≤ to }
         requires within { to ≤ length self.now }
         ensures { IsTrue result ↔ IsWithin (write (drop from (take to self.now))) }
     {
+        if from < to && self.has_small_parts(from) {
+            return true;
+        }
         self.part_weight(true, from, to) <= MOST_WEIGHT
     }
 
