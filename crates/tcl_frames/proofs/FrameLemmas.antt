@@ -12,6 +12,9 @@ use Rattle.tcl_frames.specs.Names.{Text}
 use Rattle.tcl_frames.specs.Variables.{Frame, Variables, Part}
 use Rattle.tcl_frames.specs.VariableArrays.{Elements, extended, thinned}
 use Rattle.tcl_frames.specs.Variables.Part.{whole, element, nested}
+use Rattle.std.specs.declared.alloc.AllocError.{AllocError}
+use Rattle.tcl_frames.specs.Elements.{PutsElement, PutsElementOf}
+use Rattle.tcl_frames.specs.Reached.{link_of}
 use Rattle.tcl_frames.specs.Rebinding.{rebound, unbound, with_variable, without_variable, emptied}
 use Rattle.tcl_frames.specs.declared.variable.Variable.{Variable}
 use Rattle.tcl_frames.specs.declared.variable.Variable.TheVariants.{Scalar, Array, Link}
@@ -94,6 +97,22 @@ module _ (F self : Frame) (same : F ≡ self) (x : Text) (v w : Variable) (es : 
     linked_self true h.0,
     h.1,
     ap (λ (gs : Variables). record { words = F.words; variables = gs }) (set ∙ ap (set_value (bytes_eq x) F.variables) h.2 ∙ set_same x F.variables v found) ∙ same,
+  )
+
+-- ## Elements that are told by their keys
+
+module _ (F self : Frame) (same : F ≡ self) (x k t : Text) (v w : Variable) (es : Variables) (found : lookup (bytes_eq x) F.variables ≡ Some v) (set : es ≡ set_value (bytes_eq x) F.variables w) where
+  pub put_lent : (r : Result (Option Text) AllocError) → IfOk r (λ left. MatchOption left (PutsElement v k t w) (λ u. (u ≡ t) × (w ≡ v)))
+      → IfOk r (λ left. MatchOption left (PutsElementOf self x k t (record { words = F.words; variables = es })) (λ u. (u ≡ t) × (record { words = F.words; variables = es } ≡ self)))
+  put_lent (Err e) h = tt
+  put_lent (Ok None) h = (
+    ap link_of (subst (λ (s : Frame). lookup (bytes_eq x) s.variables ≡ Some v) same found) ∙ h.0,
+    λ name. subst (λ (s : Frame). rebound s x (assigned (element k) (lookup (bytes_eq x) s.variables) t name) ≡ Ok (record { words = F.words; variables = es })) same
+        (rebound_is F x v w _ es (ap (λ o. assigned (element k) o t name) found ∙ h.1 name) set found),
+  )
+  put_lent (Ok (Some u)) h = (
+    h.0,
+    ap (λ (gs : Variables). record { words = F.words; variables = gs }) (set ∙ ap (set_value (bytes_eq x) F.variables) h.1 ∙ set_same x F.variables v found) ∙ same,
   )
 
 -- ## Elements that a pattern takes

@@ -1,5 +1,5 @@
 -- A name that is one of the current frame, and stands for a value there.
-use Rattle.std.proofs.Common.{◌≡◌, ℕ, ◌-◌, ◌<◌, true, false, length, slice_get, slice_set, List, Option, Some, None, Result, Ok, Err, refl, sym, ◌∙◌, ap, subst}
+use Rattle.std.proofs.Common.{◌≡◌, ◌≢◌, ℕ, ◌-◌, ◌<◌, true, false, length, get_or, slice_get, slice_set, List, Option, Some, None, Result, Ok, Err, refl, sym, ◌∙◌, ap, subst}
 use Rattle.std.specs.Prelude.{IfSome, IfOk, OnErr, MatchOption, IsSome}
 use Rattle.std.specs.Borrow.{Bor}
 use Rattle.std.specs.declared.alloc.AllocError.{AllocError}
@@ -7,12 +7,14 @@ use Rattle.std.specs.Map.{lookup}
 use Rattle.std.specs.Str.{bytes_eq}
 use Rattle.tcl_frames.specs.Names.{Text, is_simple}
 use Rattle.tcl_frames.specs.Variables.{Frame}
-use Rattle.tcl_frames.specs.Variables.Part.{whole}
+use Rattle.tcl_frames.specs.Variables.Part.{whole, element}
+use Rattle.tcl_frames.specs.VariableArrays.{element_name}
+use Rattle.tcl_frames.specs.Elements.{PutsElementOf}
 use Rattle.tcl_frames.specs.Access.{assigned, value_of}
 use Rattle.tcl_frames.specs.Rebinding.{rebound, with_variable}
 use Rattle.tcl_frames.specs.declared.variable.Variable.TheVariants.{Scalar}
 use Rattle.tcl_frames.specs.declared.frame.Change.TheVariants.{Assign}
-use Rattle.tcl_frames.proofs.NameLemmas.{simple_name}
+use Rattle.tcl_frames.proofs.NameLemmas.{simple_name, element_named}
 use Rattle.tcl_frames.specs.Places.{Levels, Spot, current, bound, end_of}
 use Rattle.tcl_frames.specs.Chain.{Aside, Chain, read, written, after_set}
 use Rattle.tcl_frames.specs.Changes.{change_levels}
@@ -112,3 +114,39 @@ module _ (fs : Levels) (as' : List Aside) (n : ℕ) (x t : Text) (f g : Frame) (
       by (Err e) h k = kept_sound fs as' n f g m at k sound
       by (Ok None) h k = lent_sound fs as' n f g x x t whole m at (rebound_absent fs n x t f g simple is at h.0 h.1) sound
       by (Ok (Some v)) h k = kept_sound fs as' n f g m at h.2 sound
+
+-- ## An element of an array of the current frame
+
+module _ (fs : Levels) (n : ℕ) (a k t : Text) (f g : Frame) (simple : is_simple a ≡ true) (unopened : (i : ℕ) → i < length a → get_or a i 0 ≢ 40) (is : n ≡ current fs) (at : slice_get fs n ≡ Some f) (puts : PutsElementOf f a k t g) where
+  pub written_element : written fs (element_name a k) t ≡ Ok (slice_set fs n g)
+  written_element =
+      written_is fs (element_name a k) t
+      ∙ change_is (Assign t) fs (element_name a k) (record { is_global = false; base = a; key = Some k }) n (element_named a k simple unopened) is
+      ∙ ap (λ (p : Spot). change_levels (Assign t) fs p (element_name a k)) (follow_here fs (over (start n a) (element k)) (ap link_of (bound_at fs n a f at) ∙ puts.0))
+      ∙ change_level (Assign t) fs (over (start n a) (element k)) f g (element_name a k) at (puts.1 (element_name a k))
+
+module _ (fs : Levels) (as' : List Aside) (n : ℕ) (a k t : Text) (f g : Frame) (r : Result (Option Text) AllocError) (at : slice_get fs n ≡ Some f) (put : IfOk r (λ left. MatchOption left (PutsElementOf f a k t g) (λ v. (v ≡ t) × (g ≡ f)))) where
+  -- where it isn't put, nothing changes
+  pub put_near : (self : Chain) → chain fs as' ≡ self → is_simple a ≡ true → ((i : ℕ) → i < length a → get_or a i 0 ≢ 40) → n ≡ current self.frames
+      → IfOk r (λ left. MatchOption left (after_set self (element_name a k) t ≡ Ok (chain (slice_set fs n g) as')) (λ v. (v ≡ t) × (chain (slice_set fs n g) as' ≡ self)))
+  put_near self same simple unopened is = by r put
+    where
+      level_is : n ≡ current fs
+      level_is = is ∙ ap (λ (s : Chain). current s.frames) (sym same)
+
+      by : (q : Result (Option Text) AllocError) → IfOk q (λ left. MatchOption left (PutsElementOf f a k t g) (λ v. (v ≡ t) × (g ≡ f)))
+          → IfOk q (λ left. MatchOption left (after_set self (element_name a k) t ≡ Ok (chain (slice_set fs n g) as')) (λ v. (v ≡ t) × (chain (slice_set fs n g) as' ≡ self)))
+      by (Err e) h = tt
+      by (Ok None) h =
+          subst (λ (s : Chain). after_set s (element_name a k) t ≡ Ok (chain (slice_set fs n g) as')) same
+          (with_ok fs (slice_set fs n g) as' (written fs (element_name a k) t) (written_element fs n a k t f g simple unopened level_is at h))
+      by (Ok (Some v)) h = (h.0, kept_is fs as' n f g self same at h.1)
+
+  pub put_sound : (m : ℕ) → OnErr r (g ≡ f) → IsSound (chain fs as') × HasRoom m as' → IsSound (chain (slice_set fs n g) as') × HasRoom m as'
+  put_sound m unchanged sound = by r put unchanged
+    where
+      by : (q : Result (Option Text) AllocError) → IfOk q (λ left. MatchOption left (PutsElementOf f a k t g) (λ v. (v ≡ t) × (g ≡ f)))
+          → OnErr q (g ≡ f) → IsSound (chain (slice_set fs n g) as') × HasRoom m as'
+      by (Err e) h e-same = kept_sound fs as' n f g m at e-same sound
+      by (Ok None) h e-same = lent_sound fs as' n f g a (element_name a k) t (element k) m at (h.1 (element_name a k)) sound
+      by (Ok (Some v)) h e-same = kept_sound fs as' n f g m at h.1 sound

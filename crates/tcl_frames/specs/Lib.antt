@@ -20,3 +20,4 @@ pub mod Rebinding
 pub mod Written
 pub mod Messages
 pub mod LendingParts
+pub mod Elements

@@ -12,6 +12,7 @@ ghost use Rattle.tcl_frames.specs.VariableArrays.{extended, thinned};
 ghost use Rattle.tcl_frames.specs.declared.variable.Variable.TheVariants.{Array};
 ghost use Rattle.tcl_frames.specs.Faults.{Refuses};
 ghost use Rattle.tcl_frames.specs.Parts.{seen_part};
+ghost use Rattle.tcl_frames.specs.Elements.{PutsElement};
 
 use crate::fault::{FrameError, NameFault, Verb, refused, refused_elements};
 use crate::name_map::NameMap;
@@ -191,6 +192,30 @@ impl Variable {
             }
             Variable::Scalar(_) => Err(refused(NameFault::NotArray(Verb::Set), name)),
             Variable::Link(_) => Err(refused(NameFault::NotArray(Verb::Set), name)),
+        }
+    }
+
+    /// Sets an element of the variable, or gives the value back where the variable is no array.
+    ///
+    /// # Errors
+    /// Want of memory, which leaves the variable as it was.
+    pub fn put_element(
+        &mut self,
+        alloc: Global,
+        key: &str,
+        value: Value,
+    ) -> Result<Option<Value>, AllocError>
+        ensures ok { IfOk result
+            (λ left. MatchOption left (PutsElement self.old key.now value self.new)
+            (λ v. (v ≡ value) × (self.new ≡ self.old))) }
+        ensures unchanged { OnErr result (self.new ≡ self.old) }
+    {
+        match self {
+            Variable::Array(elements) => {
+                elements.insert(alloc, key, value)?;
+                Ok(None)
+            }
+            Variable::Scalar(_) | Variable::Link(_) => Ok(Some(value)),
         }
     }
 

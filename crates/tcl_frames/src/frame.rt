@@ -8,6 +8,7 @@ ghost use Rattle.indexmap.specs.IndexMap.{insert_entry};
 ghost use Rattle.tcl_frames.specs.Access.{value_of, is_linked};
 ghost use Rattle.tcl_frames.specs.Faults.{Refuses};
 ghost use Rattle.tcl_frames.specs.Parts.{seen_part};
+ghost use Rattle.tcl_frames.specs.Elements.{PutsElementOf};
 
 use crate::access::{Part, elements_in, new_array, new_variable};
 use crate::fault::{FrameError, NameFault, Verb, refused, refused_elements};
@@ -266,6 +267,29 @@ impl Frame {
         let variable = new_variable(alloc, part, value, name)?;
         insert_told(&mut self.variables, alloc, base, name, variable)?;
         Ok(None)
+    }
+
+    /// Sets an element of the array that a name stands for, or gives the value back where it stands
+    /// for none.
+    ///
+    /// # Errors
+    /// Want of memory, which leaves the frame as it was.
+    pub fn put_element(
+        &mut self,
+        alloc: Global,
+        base: &str,
+        key: &str,
+        value: Value,
+    ) -> Result<Option<Value>, AllocError>
+        ensures ok { IfOk result
+            (λ left. MatchOption left (PutsElementOf self.old base.now key.now value self.new)
+            (λ v. (v ≡ value) × (self.new ≡ self.old))) }
+        ensures unchanged { OnErr result (self.new ≡ self.old) }
+    {
+        if let Some(variable) = self.variables.get_mut(base) {
+            return variable.put_element(alloc, key, value);
+        }
+        Ok(Some(value))
     }
 
     /// Makes a name that stands for nothing stand for a value, or gives the value back where it

@@ -1,10 +1,12 @@
 //! The steps that evaluations are put together from.
 ghost use Rattle.std.specs.Prelude.{◌≡◌, ◌≤◌, true, false, Some, None, Err, IfOk, IfErr, OnOk};
-ghost use Rattle.std.specs.Prelude.{OnErr};
+ghost use Rattle.std.specs.Prelude.{OnErr, IfSome, MatchOption, Ok};
 ghost use Rattle.std.specs.Option.{option_copied, option_map};
 ghost use Rattle.tcl_core.specs.Paths.{Path};
 ghost use Rattle.tcl_core.specs.Trees as core;
 ghost use Rattle.tcl_frames.specs.Chain.{read, after_set};
+ghost use Rattle.tcl_frames.specs.Faults.{Refuses};
+ghost use Rattle.tcl_frames.specs.VariableArrays.{element_name};
 ghost use Rattle.tcl_language.specs.Faults.{frame_message};
 ghost use Rattle.tcl_language.specs.Instructions.{fits};
 ghost use Rattle.tcl_core.specs.Endings.Kind.{Full};
@@ -243,6 +245,60 @@ pub fn write_named(
     }
 }
 
+/// The array and the key that the name of an element is written with.
+fn element_parts(name: &str) -> Option<(&str, &str)>
+    ensures { IfSome result (λ found. name.now ≡ element_name found.0.now found.1.now) }
+{
+    name.strip_suffix(')')?.split_once('(')
+}
+
+/// Sets the element that a word names of an array of the current frame, or gives the value back,
+/// where nothing has changed.
+///
+/// # Errors
+/// Want of memory, where nothing has changed.
+fn put_by_word(
+    frames: &mut Frames,
+    alloc: Global,
+    word: &Value,
+    value: Value,
+) -> Result<Option<Value>, AllocError>
+    ensures put { IfOk result (λ left. MatchOption left
+        (after_set frames.old word.now value ≡ Ok frames.new)
+        (λ v. (v ≡ value) × (frames.new ≡ frames.old))) }
+    ensures unchanged { OnErr result (frames.new ≡ frames.old) }
+{
+    let Some(name) = word.as_text() else {
+        return Ok(Some(value));
+    };
+    let Some((array, key)) = element_parts(name.as_str()) else {
+        return Ok(Some(value));
+    };
+    frames.put_element(alloc, array, key, value)
+}
+
+/// Sets the variable that a word names: an element of an array without a look at what it links to,
+/// and others where the word's place says first.
+///
+/// # Errors
+/// Those of [`Frames::set`], where nothing has changed.
+fn set_by_word(
+    frames: &mut Frames,
+    alloc: Global,
+    word: &Value,
+    value: Value,
+) -> Result<(), FrameError>
+    ensures ok { OnOk result (after_set frames.old word.now value ≡ Ok frames.new) }
+    ensures err { IfErr result (λ e. Refuses e (after_set frames.old word.now value)) }
+    ensures unchanged { OnErr result (frames.new ≡ frames.old) }
+{
+    let Some(value) = put_by_word(frames, alloc, word, value)? else {
+        return Ok(());
+    };
+    let name = variable_name(alloc, word)?;
+    frames.set_near(alloc, &name, value)
+}
+
 /// Sets the variable that a word names, which is sought where the word's place says first.
 pub fn write_by_word(
     tree: &mut Tree,
@@ -262,6 +318,11 @@ pub fn write_by_word(
     ensures unchanged { OnErr result (tree_of tree.new ≡ tree_of tree.old) }
     ensures level { IsLevel tree.old tree.new }
 {
-    let name = variable_name(alloc, word)?;
-    write_named(tree, alloc, place, &name, value)
+    let Some(frames) = tree.frames_of(place) else {
+        return Err(Interruption::Memory);
+    };
+    match set_by_word(frames, alloc, word, value) {
+        Ok(()) => Ok(()),
+        Err(error) => Err(frame_failure(alloc, error)),
+    }
 }
