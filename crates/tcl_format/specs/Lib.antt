@@ -1,3 +1,4 @@
 pub mod Specifiers
 pub mod Pieces
+pub mod Layouts
 pub mod Filling

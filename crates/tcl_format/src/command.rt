@@ -7,17 +7,21 @@ ghost use Rattle.tcl_format.specs.Specifiers.{shown};
 ghost use Rattle.tcl_format.specs.Filling.{item_of, items, next_value, put_value, put_item, filled};
 ghost use Rattle.tcl_format.specs.Filling.{format_of};
 
-use crate::pieces::{add_letter, add_padded, add_piece};
+use crate::pieces::{add_aligned, add_letter, add_piece};
 use crate::refusal::{bad_format, not_enough};
 use crate::specifier::{Conversion, Kind, Specifier, first, read_specifier};
 use std::alloc::Global;
 use tcl_text::integer::Integers;
 use tcl_text::text::Text;
+use tcl_value::value::Value;
 use tcl_words::answer::Answer;
 use tcl_words::refusal::{Refusal, wrong_arguments};
 
+/// How many bytes more than the text itself room is made for at first.
+const SPARE: usize = 16;
+
 /// The next value, and those behind it.
-fn next_value(alloc: Global, values: &[Text]) -> Result<(&Text, &[Text]), Refusal>
+fn next_value(alloc: Global, values: &[Value]) -> Result<(&Value, &[Value]), Refusal>
     ensures { Gives (λ p. (p.0.now, p.1.now)) result (next_value values.now) }
 {
     match values {
@@ -35,8 +39,8 @@ fn add_value<'a>(
     kind: Kind,
     text: &str,
     rest: &str,
-    values: &'a [Text],
-) -> Result<&'a [Text], Refusal>
+    values: &'a [Value],
+) -> Result<&'a [Value], Refusal>
     requires { length (string_bytes made.old) ≤ 16777216 }
     ensures added { Gives
         (λ left. (string_bytes made.new, left.now)) result
@@ -45,16 +49,7 @@ fn add_value<'a>(
     ensures within { OnOk result (length (string_bytes made.new) ≤ 16777216) }
 {
     let (value, left) = next_value(alloc, values)?;
-    add_piece(
-        alloc,
-        style,
-        made,
-        specifier,
-        kind,
-        text,
-        rest,
-        value.as_str(),
-    )?;
+    add_piece(alloc, style, made, specifier, kind, text, rest, value)?;
     Ok(left)
 }
 
@@ -66,8 +61,8 @@ fn add_specified<'a>(
     read: Option<Specifier>,
     text: &str,
     rest: &str,
-    values: &'a [Text],
-) -> Result<&'a [Text], Refusal>
+    values: &'a [Value],
+) -> Result<&'a [Value], Refusal>
     requires { length (string_bytes made.old) ≤ 16777216 }
     ensures added { Gives
         (λ left. (string_bytes made.new, left.now)) result
@@ -80,7 +75,7 @@ fn add_specified<'a>(
     };
     match specifier.conversion {
         Conversion::Percent => {
-            add_padded(alloc, made, specifier, false, "", "%")?;
+            add_aligned(alloc, made, specifier, "%")?;
             Ok(values)
         }
         Conversion::Value(kind) => {
@@ -90,10 +85,10 @@ fn add_specified<'a>(
 }
 
 /// A text with values in the place of its specifiers.
-fn filled(alloc: Global, style: Integers, text: &str, values: &[Text]) -> Result<String, Refusal>
+fn filled(alloc: Global, style: Integers, text: &str, values: &[Value]) -> Result<String, Refusal>
     ensures { Gives string_bytes result (filled style [] (items (chars text.now) 0) values.now) }
 {
-    let mut made = String::new(alloc);
+    let mut made = String::with_capacity(alloc, text.len().saturating_add(SPARE))?;
     let mut rest = text;
     let mut left = values;
     'items: while let Some((letter, behind)) = first(rest) {
@@ -109,18 +104,34 @@ fn filled(alloc: Global, style: Integers, text: &str, values: &[Text]) -> Result
     Ok(made)
 }
 
+/// The same of the text of a value.
+fn filled_form(
+    alloc: Global,
+    style: Integers,
+    form: &Value,
+    values: &[Value],
+) -> Result<String, Refusal>
+    ensures { Gives string_bytes result (filled style [] (items (chars form.now) 0) values.now) }
+{
+    if let Some(text) = form.as_text() {
+        return filled(alloc, style, text.as_str(), values);
+    }
+    let text = form.text(alloc)?;
+    filled(alloc, style, text.as_str(), values)
+}
+
 /// `format formatString ?arg ...?`: the text with values in the place of its specifiers, from the
 /// left. Values that are left over count for nothing.
 ///
 /// # Errors
 /// 241; the first from the left of 251, 111, 112 and 122; want of memory.
-pub fn format(alloc: Global, style: Integers, words: &[Text]) -> Result<Answer, Refusal>
+pub fn format(alloc: Global, style: Integers, words: &[Value]) -> Result<Answer, Refusal>
     ensures { Gives answer_text result (format_of style words.now) }
 {
     match words {
         [] => Err(wrong_arguments(alloc, "format formatString ?arg ...?")),
-        [text, values @ ..] => {
-            let made = filled(alloc, style, text.as_str(), values)?;
+        [form, values @ ..] => {
+            let made = filled_form(alloc, style, form, values)?;
             Ok(Answer::Text(Text::from_string(alloc, made)?))
         }
     }

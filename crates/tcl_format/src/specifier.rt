@@ -1,5 +1,5 @@
 //! What stands behind a `%`: how a value is to be written.
-ghost use Rattle.std.specs.Prelude.{◌≡◌, ◌∷◌, [], MatchOption};
+ghost use Rattle.std.specs.Prelude.{◌≡◌, ◌≢◌, ◌↔◌, ◌<◌, ◌∷◌, [], MatchOption, IfSome, IsTrue};
 ghost use Rattle.std.specs.Str.{chars};
 ghost use Rattle.tcl_format.specs.Specifiers.{is_flag, with_flag, no_flags, read_flags};
 ghost use Rattle.tcl_format.specs.Specifiers.{read_number, capped, read_precision, behind_l};
@@ -165,6 +165,20 @@ fn behind_l(text: &str) -> &str
     if letter == 'l' { behind } else { text }
 }
 
+/// What follows the `l` or `ll` with which a text may begin.
+fn behind_ls(text: &str) -> &str
+    ensures { chars result.now ≡ behind_l (behind_l (chars text.now)) }
+{
+    let Some((letter, behind)) = first(text) else {
+        return text;
+    };
+    if letter == 'l' {
+        behind_l(behind)
+    } else {
+        text
+    }
+}
+
 /// The base of a conversion.
 fn radix_of(letter: char) -> Option<Radix>
     ensures { result ≡ radix_of letter }
@@ -233,18 +247,36 @@ fn closed(
     )
 }
 
+/// Whether a character is no flag, digit, point or `l`, so that it closes a specifier or is wrong.
+fn is_last(letter: char) -> bool
+    ensures { IsTrue result ↔ ((57 < letter) × (letter ≢ 108)) }
+{
+    letter > '9' && letter != 'l'
+}
+
+/// The specifier that the first character closes, and what follows it, or none where another part
+/// stands first.
+fn read_bare(text: &str) -> Option<(Option<Specifier>, &str)>
+    ensures { IfSome result (λ p. (p.0, chars p.1.now) ≡ specified (chars text.now)) }
+{
+    let (letter, behind) = first(text)?;
+    if !is_last(letter) {
+        return None;
+    }
+    let conversion = conversion_of(letter);
+    Some((made_of(Flags::none(), 0, None, conversion), behind))
+}
+
 /// The specifier with which a text begins, which stands behind a `%`, or none; and what follows the
 /// character that closes it or that can't stand in it.
 pub fn read_specifier(text: &str) -> (Option<Specifier>, &str)
     ensures { (result.0, chars result.1.now) ≡ specified (chars text.now) }
 {
+    if let Some(read) = read_bare(text) {
+        return read;
+    }
     let (flags, behind_flags) = read_flags(text);
     let (width, behind_width) = read_number(behind_flags);
     let (precision, behind_precision) = read_precision(behind_width);
-    closed(
-        flags,
-        width,
-        precision,
-        behind_l(behind_l(behind_precision)),
-    )
+    closed(flags, width, precision, behind_ls(behind_precision))
 }
