@@ -1,5 +1,5 @@
 //! `info`, which tells of the interpreter that asks.
-ghost use Rattle.std.specs.Prelude.{◌≡◌, ◌<◌, ◌^◌, codes, IfOk, Some};
+ghost use Rattle.std.specs.Prelude.{◌≡◌, ◌<◌, ◌^◌, codes, IfOk, IfSome, Some};
 ghost use Rattle.std.specs.Option.{option_copied};
 ghost use Rattle.std.specs.Fmt.{decimal};
 ghost use Rattle.tcl_core.specs.Endings as core;
@@ -26,7 +26,7 @@ use tcl_frames::frames::Frames;
 use tcl_frames::scope::Scope;
 use tcl_glob::matches;
 use tcl_lists::commands;
-use tcl_run::failure::{bad_level, too_long, wrong_args};
+use tcl_run::failure::{bad_level, refused, too_long, wrong_args};
 use tcl_run::interruption::Interruption;
 use tcl_run::steps::frame_failure;
 use tcl_text::list::write_list;
@@ -105,8 +105,22 @@ fn matching(alloc: Global, pattern: &str, names: &[Text]) -> Result<Vec<Text>, A
     Ok(kept)
 }
 
-/// The list of texts as a value.
-pub(crate) fn list_value(alloc: Global, texts: &[Text]) -> Result<Value, Interruption>
+/// These texts as values, where each of them is short enough for one.
+fn values_of(alloc: Global, texts: &[Text]) -> Result<Option<Vec<Value>>, AllocError>
+    ensures { IfOk result (λ made. IfSome made (λ values. values.items ≡ texts.now)) }
+{
+    let mut values = Vec::with_capacity(alloc, texts.len())?;
+    'texts: for text in texts {
+        let Ok(value) = Value::from_text(text.clone()?) else {
+            return Ok(None);
+        };
+        values.push(value)?;
+    }
+    Ok(Some(values))
+}
+
+/// The list of texts as a value that is written.
+fn written_value(alloc: Global, texts: &[Text]) -> Result<Value, Interruption>
     ensures { IfEnded result (λ r. r
         ≡ Completed (either (fits (written_list texts.now)) (core.ok (written_list texts.now))
         language.too_long)) }
@@ -115,6 +129,30 @@ pub(crate) fn list_value(alloc: Global, texts: &[Text]) -> Result<Value, Interru
     match Value::from_text(text) {
         Ok(value) => Ok(value),
         Err(_) => Err(too_long(alloc)),
+    }
+}
+
+/// The list of these values as a value that is a list, so that it isn't read again.
+fn made_value(alloc: Global, values: &[Value]) -> Result<Value, Interruption>
+    ensures { IfEnded result (λ r. r
+        ≡ Completed (either (fits (written_list values.now)) (core.ok (written_list values.now))
+        language.too_long)) }
+{
+    match commands::list(alloc, values) {
+        Ok(value) => Ok(value),
+        Err(refusal) => Err(refused(alloc, refusal)),
+    }
+}
+
+/// The list of texts as a value.
+pub(crate) fn list_value(alloc: Global, texts: &[Text]) -> Result<Value, Interruption>
+    ensures { IfEnded result (λ r. r
+        ≡ Completed (either (fits (written_list texts.now)) (core.ok (written_list texts.now))
+        language.too_long)) }
+{
+    match values_of(alloc, texts)? {
+        Some(values) => made_value(alloc, values.as_slice()),
+        None => written_value(alloc, texts),
     }
 }
 

@@ -12,7 +12,7 @@ ghost use Rattle.tcl_words.specs.Outcomes.{Gives};
 
 use crate::answers::{answer_value, answered, texts_of};
 use std::alloc::Global;
-use tcl_characters::parts::character_count;
+use tcl_characters::parts::characters_of;
 use tcl_format::command;
 use tcl_lists::reading::index_word;
 use tcl_run::interruption::Interruption;
@@ -78,7 +78,7 @@ fn characters_between(
         (range_of style (text.now ∷ first.now ∷ last.now ∷ [])) }
 {
     let text = text.text(alloc)?;
-    let count = character_count(text.as_str());
+    let count = characters_of(&text);
     let first = index_word(alloc, style, count, first)?;
     let last = index_word(alloc, style, count, last)?;
     let answer = text_answer(alloc, counted_span(text.as_str(), count, first, last))?;
@@ -91,17 +91,17 @@ fn character_at(alloc: Global, style: Integers, text: &Value, at: &Value) -> Res
     ensures { Gives (λ value. value) result (index_of style (text.now ∷ at.now ∷ [])) }
 {
     let text = text.text(alloc)?;
-    let count = character_count(text.as_str());
+    let count = characters_of(&text);
     let at = index_word(alloc, style, count, at)?;
     let answer = text_answer(alloc, counted_span(text.as_str(), count, at, at))?;
     Ok(answer_value(answer))
 }
 
 /// How many characters a text has, as a value.
-fn count_of(alloc: Global, text: &str) -> Result<Value, Refusal>
+fn count_of(alloc: Global, text: &Text) -> Result<Value, Refusal>
     ensures { Gives (λ value. value) result (length_of (text.now ∷ [])) }
 {
-    let answer = count_answer(alloc, character_count(text))?;
+    let answer = count_answer(alloc, characters_of(text))?;
     Ok(answer_value(answer))
 }
 
@@ -110,10 +110,10 @@ fn characters_in(alloc: Global, text: &Value) -> Result<Value, Refusal>
     ensures { Gives (λ value. value) result (length_of (text.now ∷ [])) }
 {
     if let Some(kept) = text.as_text() {
-        return count_of(alloc, kept.as_str());
+        return count_of(alloc, kept);
     }
     let written = text.text(alloc)?;
-    count_of(alloc, written.as_str())
+    count_of(alloc, &written)
 }
 
 /// What `string` gives of two words, for whose texts no list is made.
@@ -199,8 +199,7 @@ pub fn string_value(alloc: Global, style: Integers, args: &[Value]) -> Result<Va
 fn format_value(alloc: Global, style: Integers, args: &[Value]) -> Result<Value, Refusal>
     ensures { Gives (λ value. value) result (format_of style args.now) }
 {
-    let texts = texts_of(alloc, args)?;
-    let answer = command::format(alloc, style, texts.as_slice())?;
+    let answer = command::format(alloc, style, args)?;
     Ok(answer_value(answer))
 }
 
