@@ -25,3 +25,4 @@ pub mod Reached
 pub mod Served
 pub mod Standing
 pub mod EntryTelling
+mod Ends

@@ -1,6 +1,6 @@
 //! The branches that the words of an `if` are.
 ghost use Rattle.std.specs.Option.{option_copied, option_map};
-ghost use Rattle.std.specs.Prelude.{◌≡◌, IfOk, IfSome, Some, codes};
+ghost use Rattle.std.specs.Prelude.{◌≡◌, ◌↔◌, IfOk, IfSome, IsTrue, Some, codes};
 ghost use Rattle.tcl_language.specs.Expressions.{branches_of, without_first};
 ghost use Rattle.tcl_calls.specs.BranchesRead.{alone, branch_of, first_of, lone, seen};
 
@@ -21,6 +21,17 @@ pub struct Branches<'w> {
     pub tests: Vec<Branch<'w>>,
     /// The body that runs where no condition is true, if there is one.
     pub last: Option<&'w Value>,
+}
+
+/// Whether a word is this name. Where the word is kept as a text its length is looked at first.
+#[inline(always)]
+fn is_word(word: &Value, name: &[u8]) -> bool
+    ensures { IsTrue result ↔ (word.now ≡ name.now) }
+{
+    match word.as_text() {
+        Some(text) if text.len() != name.len() => false,
+        _ => word.is_text(name),
+    }
 }
 
 /// Words without one that may stand first.
@@ -66,8 +77,8 @@ pub fn one_branch(words: &[Value]) -> Option<(Branch<'_>, Option<&Value>)>
         (λ x. branches_of words.now ≡ Some (alone (branch_of x.0) (option_copied x.1))) }
 {
     match words {
-        [test, body] if !body.is_text(b"then") => Some((Branch { test, body }, None)),
-        [test, body, word, last] if !body.is_text(b"then") && word.is_text(b"else") => {
+        [test, body] if !is_word(body, b"then") => Some((Branch { test, body }, None)),
+        [test, body, word, last] if !is_word(body, b"then") && is_word(word, b"else") => {
             Some((Branch { test, body }, Some(last)))
         }
         _ => None,

@@ -21,7 +21,7 @@ ghost use Rattle.tcl_calls.specs.HostCalls.{Ends, IsRead, heard_by};
 use crate::host_calls::HostCall;
 use crate::setting::set_named;
 use std::alloc::{AllocError, Global};
-use tcl_characters::parts::character_count;
+use tcl_characters::parts::characters_of;
 use tcl_host::bytes::Bytes;
 use tcl_host::reply::{HostRefusal, HostReply};
 use tcl_run::failure::{failure, failure_quoting, too_long};
@@ -125,7 +125,7 @@ fn length_of(alloc: Global, value: &Value) -> Result<Value, AllocError>
     ensures { IfOk result (λ count. count ≡ signed_decimal (pos (length (chars value.now)))) }
 {
     let text = value.text(alloc)?;
-    count_value(character_count(text.as_str()))
+    count_value(characters_of(&text))
 }
 
 /// The number of a count. No memory has so many characters that it takes more than 63 bits.

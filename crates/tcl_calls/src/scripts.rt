@@ -1,5 +1,5 @@
 //! Scripts that words are put together to.
-ghost use Rattle.std.specs.Prelude.{◌≡◌, ◌∷◌, [], true, false, IfOk, IfErr, IfSome, IsTrue};
+ghost use Rattle.std.specs.Prelude.{◌≡◌, ◌<◌, ◌∷◌, [], true, false, IfOk, IfErr, IfSome, IsTrue};
 ghost use Rattle.std.specs.Str.{chars};
 ghost use Rattle.tcl_characters.specs.Texts.{is_among};
 ghost use Rattle.tcl_core.specs.Endings.Reply.{Completed};
@@ -30,8 +30,31 @@ fn is_past_white(letter: char) -> bool
     letter > ' '
 }
 
-/// Whether a text begins and ends with characters that `concat` trims off none of.
+/// Whether a byte is ASCII and comes behind the space.
+fn is_plain_byte(byte: u8) -> bool
+    ensures ascii { IsTrue result → byte < 128 }
+    ensures kept { IsTrue result → is_among (chars white) byte ≡ false }
+{
+    byte > b' ' && byte < 0x7f
+}
+
+/// Whether a text begins and ends with such bytes, as most do: the same as [`has_full_ends`], and
+/// no character is read.
 #[inline(always)]
+fn has_plain_ends(text: &str) -> bool
+    ensures { IsTrue result → trimmed text.now ≡ text.now }
+{
+    let bytes = text.as_bytes();
+    if bytes.is_empty() {
+        return false;
+    }
+    let first = bytes[0];
+    let last = bytes[bytes.len() - 1];
+    is_plain_byte(first) && is_plain_byte(last)
+}
+
+/// Whether a text begins and ends with characters that `concat` trims off none of.
+#[inline(never)]
 fn has_full_ends(text: &str) -> bool
     ensures { IsTrue result → trimmed text.now ≡ text.now }
 {
@@ -47,6 +70,14 @@ fn has_full_ends(text: &str) -> bool
     is_past_white(first) && is_past_white(last)
 }
 
+/// Whether `concat` trims nothing off a text, told by its ends.
+#[inline(always)]
+fn ends_fully(text: &str) -> bool
+    ensures { IsTrue result → trimmed text.now ≡ text.now }
+{
+    has_plain_ends(text) || has_full_ends(text)
+}
+
 /// Whether a single word is put together to itself, told at a glance.
 #[inline(always)]
 pub(crate) fn is_full_word(word: &Value) -> bool
@@ -54,7 +85,7 @@ pub(crate) fn is_full_word(word: &Value) -> bool
         (fits (concatenated (word.now ∷ [])) ≡ true) }
 {
     match word.as_text() {
-        Some(text) => text.len() <= MOST_BYTES && has_full_ends(text.as_str()),
+        Some(text) => text.len() <= MOST_BYTES && ends_fully(text.as_str()),
         None => false,
     }
 }
@@ -66,7 +97,7 @@ fn full_word(alloc: Global, word: &Value) -> Result<Option<Value>, AllocError>
         (fits (concatenated (word.now ∷ [])) ≡ true))) }
 {
     let text = word.text(alloc)?;
-    if text.len() > MOST_BYTES || !has_full_ends(text.as_str()) {
+    if text.len() > MOST_BYTES || !ends_fully(text.as_str()) {
         return Ok(None);
     }
     Ok(Some(Value::from_short_text(text)))

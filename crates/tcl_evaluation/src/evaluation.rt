@@ -16,7 +16,7 @@ ghost use Rattle.tcl_prepared.specs.Views.{seen_command, seen_part, seen_word};
 ghost use Rattle.tcl_evaluation.specs.View.{PartGoes, PartBreaks};
 ghost use Rattle.tcl_evaluation.specs.Scripts.{read_so};
 
-use crate::hands::{counted_at_hand, word_at_hand};
+use crate::hands::{counted_by_kind, word_at_hand};
 use crate::keeping::keep_what_is_read;
 use crate::sums::count_sum;
 use crate::words::{call_literals, change_or_call, substitute_and_call};
@@ -143,6 +143,7 @@ pub fn eval_read<O: Outside>(
 /// # Errors
 /// Those of a script.
 #[cycle(eval)]
+#[inline]
 fn eval_bracket<O: Outside>(
     tree: &mut Tree,
     alloc: Global,
@@ -156,7 +157,7 @@ fn eval_bracket<O: Outside>(
     ensures here { OnCompletion result (IsHere tree.old tree.new place) }
     ensures keeps { Keeps O.entries_left tree.old tree.new outside.old outside.new }
 {
-    if let Some(value) = counted_at_hand(tree, alloc, place, bracket.kind(), bracket.script()) {
+    if let Some(value) = counted_by_kind(tree, alloc, place, bracket.kind(), bracket.script()) {
         count_sum(tree, alloc, outside, place)?;
         return Ok(value);
     }

@@ -430,6 +430,24 @@ pub fn counted_at_hand(
     }
 }
 
+/// The same. It is inlined, so that of a script that is neither by its kind nothing is looked at.
+#[inline]
+pub(crate) fn counted_by_kind(
+    tree: &Tree,
+    alloc: Global,
+    place: Place,
+    kind: BracketKind,
+    script: &Prepared,
+) -> Option<Value>
+    ensures at_hand { IfSome result (λ value. IsCountedIn tree.now place script.now value) }
+    ensures short { IfSome result (λ value. fits value ≡ true) }
+{
+    match kind {
+        BracketKind::Other => None,
+        _ => counted_at_hand(tree, alloc, place, kind, script),
+    }
+}
+
 /// The script in brackets that a word is.
 pub(crate) fn bracket_of(word: &PreparedWord) -> Option<&Bracket>
     ensures { IfSome result (λ bracket. seen_word word.now

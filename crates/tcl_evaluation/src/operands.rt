@@ -21,7 +21,7 @@ use tcl_value::value::Value;
 /// # Errors
 /// 231 to 234 and 238 of variables; those of scripts; 122; want of memory.
 #[cycle(eval)]
-#[inline(never)]
+#[inline]
 pub fn eval_operand<O: Outside>(
     tree: &mut Tree,
     alloc: Global,

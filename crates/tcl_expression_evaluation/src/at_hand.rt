@@ -503,6 +503,7 @@ fn answer_of_first(operator: BinaryOperator, first: i64) -> Option<i64>
 }
 
 /// The value of an operand, where it is a text or a variable of the current frame.
+#[inline(always)]
 fn value_at_hand<'a>(frames: &'a Frames, leaf: &'a Leaf) -> Option<&'a Value>
     ensures { IfSome result (λ value. (next : Bytes → Computation) →
         comes_to frames.now.frames (operand leaf.now next)
@@ -550,6 +551,7 @@ fn apply_to_number(operator: UnaryOperator, x: i64) -> Option<i64>
 }
 
 /// The number that an operator makes of two, if it does.
+#[inline(always)]
 fn apply_to_numbers(operator: BinaryOperator, x: i64, y: i64) -> Option<i64>
     ensures { IfSome result (λ n. (style : Style) (a b : Bytes) → int_of style a ≡ Ok x →
         int_of style b ≡ Ok y → apply_binary style operator a b ≡ Ok (signed_decimal n)) }

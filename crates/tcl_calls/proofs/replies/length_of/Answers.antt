@@ -7,4 +7,4 @@ use Rattle.tcl_calls.proofs.replies.length_of.Goals as goal
 
 pub returns : goal.returns
 returns c =
-    subst (λ (n : ℕ). IfOk c.count_value.result (λ count. count ≡ signed_decimal (pos n))) (c.character_count.ensures ∙ ap (λ (x : Text). length (chars x)) (c.as_str.ensures ∙ c.in_ok-text.ensures)) c.count_value.ensures
+    subst (λ (n : ℕ). IfOk c.count_value.result (λ count. count ≡ signed_decimal (pos n))) (c.characters_of.ensures ∙ ap (λ (x : Text). length (chars x)) c.in_ok-text.ensures) c.count_value.ensures
